@@ -19,3 +19,17 @@ impl<T: Drop> From<AllocFailed<T>> for Memory {
         Memory
     }
 }
+
+/// Why a block wasn't staged. The list is then as it was.
+#[derive(Clone, Copy, Debug, PartialEq, Eq)]
+pub enum StageFault {
+    Failed,
+    Memory,
+}
+
+/// Why a commit wasn't made. After `DiskFault` only a new opening answers; after `Memory` nothing was written.
+#[derive(Clone, Copy, Debug, PartialEq, Eq)]
+pub enum JournalFault {
+    DiskFault,
+    Memory,
+}
