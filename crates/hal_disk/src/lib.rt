@@ -1,0 +1,12 @@
+//! Sources and sites: in memory, told and proved against their traits; and those of a real program, which
+//! tell nothing.
+#![tactic(auto)]
+
+mod input_source;
+mod mem_source;
+
+pub use input_source::InputSource;
+pub use mem_source::{MemSource, SureSource};
+
+#[cfg(test)]
+mod tests;
