@@ -76,6 +76,13 @@ impl Bytes {
         Ok(())
     }
 
+    /// Takes all bytes away, and keeps the room.
+    pub fn clear(&mut self)
+        ensures { self.new ≡ [] }
+    {
+        self.buffer.clear();
+    }
+
     /// Adds these bytes at the end.
     pub fn append(&mut self, content: &[u8]) -> Result<(), Memory>
         ensures ok { OnOk result (self.new ≡ self.old ++ content.now) }

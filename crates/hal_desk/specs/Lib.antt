@@ -1,0 +1,12 @@
+pub mod Form
+pub mod Lines
+pub mod Names
+pub mod OneList
+pub mod Reply
+pub mod Roots
+pub mod Run
+pub mod Script
+pub mod State
+pub mod Taken
+pub mod Top
+pub mod Words
