@@ -1,0 +1,6 @@
+//! Blocks that are kept through a stop of the machine: a commit is all or nothing at every moment.
+#![tactic(auto)]
+
+mod change;
+
+pub use change::Change;
