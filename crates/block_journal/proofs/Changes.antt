@@ -8,6 +8,7 @@ use Rattle.std.proofs.lemmas.Bool.{cases_lt, cases_eq, cases_order}
 use Rattle.hal_base.specs.Disk.{written}
 use Rattle.block_journal.specs.declared.change.Change.{Change}
 use Rattle.block_journal.specs.Redo.{bytes_at, number_at, blocks_at, changes_at, put_all, put_image, change_bytes}
+use Rattle.block_journal.specs.Placing.{AreWhole, IsOutside, SameBut}
 use Rattle.block_journal.proofs.Images.{SameFrom, SameOutside, HoldsAt, bytes_at-same, bytes_at-is, length-bytes_at, written_inside, written_outside, length-written}
 
 Blocks : Type 0
@@ -17,11 +18,6 @@ Blocks = List (List ℕ)
 abbrev pub IsNamed : ℕ → List Change → Type 0
 IsNamed k [] = ⊥
 IsNamed k (c ∷ cs) = (c.number ≡ k) ⊎ IsNamed k cs
-
--- numbers below the count, whole blocks
-abbrev pub AreWhole : ℕ → List Change → Type 0
-AreWhole count [] = Unit {0}
-AreWhole count (c ∷ cs) = (c.number < count) × (length c.content ≡ 4096) × AreWhole count cs
 
 pub length-put_all : (cs : List Change) (blocks : List (List ℕ)) → length (put_all cs blocks) ≡ length blocks
 unfolding put_all
@@ -86,15 +82,6 @@ blocks_at-ext at (suc n) x y same =
     let rest = blocks_at-ext (at + 4096) n x y (record { byte = λ i low high. same.byte i (omega (arith, low)) (omega (arith, high)) }) in
     (λ i. here i ∷ rest i)
 
--- a byte that no change's block covers
-abbrev pub IsOutside : ℕ → List Change → ℕ → Type 0
-IsOutside first [] i = Unit {0}
-IsOutside first (c ∷ cs) i = ((i < first + 4096 * c.number) ⊎ (first + 4096 * c.number + 4096 ≤ i)) × IsOutside first cs i
-
--- but in the changes' blocks, the same bytes
-pub record SameBut (first : ℕ) (cs : List Change) (x y : List ℕ) : Type 0 where
-  pub byte : (i : ℕ) → IsOutside first cs i → get_or x i 0 ≡ get_or y i 0
-
 pub outside_below : (first : ℕ) (cs : List Change) (i : ℕ) → i < first → IsOutside first cs i
 outside_below first [] i lt = tt
 outside_below first (c ∷ cs) i lt = (inl (omega (arith, lt)), outside_below first cs i lt)
@@ -146,6 +133,11 @@ blocks_at-written first n k b image lt whole long =
     beside : (j : ℕ) → j < n → (j ≡ k → ⊥) → get_or (blocks_at first n after) j [] ≡ get_or (set (blocks_at first n image) k b) j []
     beside j below ne =
         block_at first n j after below ∙ bytes_at-same (first + 4096 * j) 4096 after image (record { byte = λ i low high. same j i ne low high }) ∙ sym (block_at first n j image below) ∙ sym (get_or-set_other (blocks_at first n image) k j b [] ne)
+
+pub put_image-more : (first : ℕ) (cs : List Change) (c : Change) (image : List ℕ) → put_image first (cs ++ c ∷ []) image ≡ written (first + 4096 * c.number) c.content (put_image first cs image)
+unfolding put_image
+put_image-more first [] c image = refl
+put_image-more first (d ∷ cs) c image = put_image-more first cs c (written (first + 4096 * d.number) d.content image)
 
 pub length-put_image : (first count : ℕ) (cs : List Change) (image : List ℕ) → AreWhole count cs → first + 4096 * count ≤ length image → length (put_image first cs image) ≡ length image
 unfolding put_image

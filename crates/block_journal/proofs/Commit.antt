@@ -9,7 +9,8 @@ use Rattle.hal_base.specs.Disk.{written, Torn}
 use Rattle.block_journal.specs.declared.change.Change.{Change}
 use Rattle.block_journal.specs.Redo.{number_at, bytes_at, blocks_at, changes_at, put_all, put_image, journal_start, is_open, journal_of, redone, change_bytes, body_bytes}
 use Rattle.block_journal.proofs.Images.{SameFrom, SameOutside, HoldsAt, bytes_at-is, bytes_at-same, torn_outside, written_inside, written_outside, length-written, length-written_le}
-use Rattle.block_journal.proofs.Changes.{AreWhole, SameBut, blocks_at-ext, put_all-same, put_all-twice, outside_below, outside_above, blocks_at-put_image, put_image-outside, length-put_image, changes_at-is}
+use Rattle.block_journal.specs.Placing.{AreWhole, SameBut}
+use Rattle.block_journal.proofs.Changes.{blocks_at-ext, put_all-same, put_all-twice, outside_below, outside_above, blocks_at-put_image, put_image-outside, length-put_image, changes_at-is}
 
 pub redone_closed : (first count : ℕ) (x : List ℕ) → is_open x ≡ false → redone first count x ≡ blocks_at first count x
 unfolding redone

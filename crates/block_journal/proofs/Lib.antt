@@ -1,3 +1,5 @@
+pub mod Calls
 pub mod Changes
 pub mod Commit
 pub mod Images
+mod Placing

@@ -2,5 +2,6 @@
 #![tactic(auto)]
 
 mod change;
+mod device;
 
 pub use change::Change;
