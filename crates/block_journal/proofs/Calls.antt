@@ -1,5 +1,5 @@
 -- How what device calls do goes on over several of them.
-use Rattle.std.proofs.Common.{◌≡◌, ◌⊎◌, inl, inr, ⊎_elim, ℕ, ◌+◌, ◌≤◌, min, List, Option, None, Some, Result, Ok, Err, length, take, drop, refl, sym, ◌∙◌, ap, subst, arith, option_map}
+use Rattle.std.proofs.Common.{◌≡◌, ◌⊎◌, inl, inr, ⊎_elim, ℕ, ◌+◌, ◌≤◌, min, List, Option, None, Some, Result, Ok, Err, OnOk, length, take, drop, refl, sym, ◌∙◌, ap, subst, arith, option_map}
 use Rattle.std.proofs.lemmas.List.{take_min as take_least}
 use Rattle.hal_base.specs.Disk.{Torn, TearsTold, written}
 use Rattle.hal_base.specs.Fault.{Rose, HasCause}
@@ -47,3 +47,7 @@ torn_from_none outcomes at n x s left = (x, left, torn_none at n x)
 
 pub exact-synced : {image next : Option (List ℕ)} {outcomes : List ℕ → List ℕ → Type 0} → next ≡ image → ((bytes text : List ℕ) → outcomes bytes text → IsTold image bytes) → IsExact next outcomes
 exact-synced {image} is only = record { only = λ told was bytes text left. let told_is : image ≡ Some told = sym is ∙ was in let o = only bytes text left in subst (λ (i : Option (List ℕ)). IsTold i bytes) told_is o }
+
+pub if_ok : {T E P Q : Type 0} (result : Result T E) → OnOk result P → (P → Q) → OnOk result Q
+if_ok (Ok x) p so = so p
+if_ok (Err e) p so = tt

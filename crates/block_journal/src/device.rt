@@ -30,7 +30,7 @@ pub(crate) fn write_synced<T: Site>(site: &mut T, at: u64, content: &[u8]) -> Re
 }
 
 /// Where a block stands in an image whose block 0 is at `first`.
-fn place_of(first: u64, number: u32) -> u64
+pub(crate) fn place_of(first: u64, number: u32) -> u64
     requires { first ≤ 2 ^ 30 }
     ensures { result ≡ first + 4096 * number }
 {

@@ -3,5 +3,6 @@
 
 mod change;
 mod device;
+mod protocol;
 
 pub use change::Change;
