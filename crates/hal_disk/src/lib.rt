@@ -2,6 +2,7 @@
 //! tell nothing.
 #![tactic(auto)]
 
+mod image;
 mod input_source;
 mod mem_source;
 
