@@ -5,9 +5,11 @@
 mod image;
 mod input_source;
 mod mem_source;
+mod sure_site;
 
 pub use input_source::InputSource;
 pub use mem_source::{MemSource, SureSource};
+pub use sure_site::SureSite;
 
 #[cfg(test)]
 mod tests;
