@@ -1,2 +1,3 @@
+pub mod FileSite
 pub mod MemSource
 pub mod SureSite
