@@ -2,12 +2,14 @@
 //! tell nothing.
 #![tactic(auto)]
 
+mod call;
 mod file_site;
 mod image;
 mod input_source;
 mod mem_source;
 mod sure_site;
 
+pub use call::Call;
 pub use file_site::FileSite;
 pub use input_source::InputSource;
 pub use mem_source::{MemSource, SureSource};
