@@ -55,6 +55,21 @@ impl Bytes {
         &self.buffer
     }
 
+    /// The bytes as a vector, which they are moved to.
+    pub fn into_vec(self) -> Vec<u8>
+        ensures { result.items ≡ self }
+    {
+        let Bytes { buffer } = self;
+        buffer
+    }
+
+    /// The bytes of a vector, which are moved.
+    pub fn from_vec(buffer: Vec<u8>) -> Bytes
+        ensures { result ≡ buffer.items }
+    {
+        Bytes { buffer }
+    }
+
     pub fn len(&self) -> usize
         ensures { result ≡ length self.now }
     {

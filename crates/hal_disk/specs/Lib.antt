@@ -1,1 +1,5 @@
+pub mod FileSite
 pub mod MemSource
+pub mod Record
+pub mod RecordLaw
+pub mod SureSite

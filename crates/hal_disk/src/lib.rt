@@ -2,11 +2,18 @@
 //! tell nothing.
 #![tactic(auto)]
 
+mod call;
+mod file_site;
+mod image;
 mod input_source;
 mod mem_source;
+mod sure_site;
 
+pub use call::Call;
+pub use file_site::FileSite;
 pub use input_source::InputSource;
 pub use mem_source::{MemSource, SureSource};
+pub use sure_site::SureSite;
 
 #[cfg(test)]
 mod tests;

@@ -1,0 +1,6 @@
+pub mod Calls
+pub mod Changes
+pub mod Torn
+pub mod Images
+mod Placing
+pub mod Steps

@@ -1,0 +1,4 @@
+pub mod Commit
+pub mod Device
+pub mod Placing
+pub mod Redo

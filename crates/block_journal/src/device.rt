@@ -1,0 +1,82 @@
+// Writes that are on the disk once they have returned.
+ghost use Rattle.std.specs.Prelude.{◌≡◌, ◌+◌, ◌-◌, ◌*◌, ◌^◌, ◌<◌, ◌≤◌, ℕ, List, [], ◌∷◌, length, OnOk};
+ghost use Rattle.std.specs.Option.{option_map};
+ghost use Rattle.hal_base.specs.Disk.{written};
+ghost use Rattle.hal_base.specs.Fault.{HasCause};
+ghost use Rattle.hal_base.specs.Room.{HasRoom};
+ghost use Rattle.hal_base.specs.Stops.{LeavesOnly, TornFrom};
+ghost use Rattle.block_journal.specs.Device.{SameTold, IsExact};
+
+ghost use Rattle.block_journal.specs.Placing.{AreWhole, PlacedFrom};
+ghost use Rattle.block_journal.specs.Redo.{journal_start, put_image};
+
+use crate::Change;
+use hal_base::{BLOCK, Failed, Site};
+
+/// Writes from `at` on, and syncs.
+pub(crate) fn write_synced<T: Site>(site: &mut T, at: u64, content: &[u8]) -> Result<(), Failed>
+    requires { at + length content.now ≤ 2 ^ 63 - 1 }
+    ensures image { OnOk result (T.image site.new ≡ option_map (written at content.now) (T.image site.old)) }
+    ensures exact { OnOk result (IsExact (T.image site.new) (T.left_at site.new (T.moment site.new))) }
+    ensures told { SameTold (T.image site.old) (T.image site.new) }
+    ensures said { T.said site.new ≡ T.said site.old }
+    ensures stops { LeavesOnly (T.moment site.old) (T.moment site.new) (T.left_at site.old) (T.left_at site.new) (TornFrom (T.left_at site.old (T.moment site.old)) at (length content.now)) }
+    ensures cause { HasCause (T.disk_faults site.old) (T.disk_faults site.new) result }
+    ensures say_faults { T.say_faults site.new ≡ T.say_faults site.old }
+    ensures room { HasRoom (T.room site.old) (T.room site.new) (T.disk_faults site.old) (T.disk_faults site.new) (λ room. at + length content.now ≤ room.0) }
+{
+    site.write_at(at, content)?;
+    site.sync()
+}
+
+/// Where a block stands in an image whose block 0 is at `first`.
+pub(crate) fn place_of(first: u64, number: u32) -> u64
+    requires { first ≤ 2 ^ 30 }
+    ensures { result ≡ first + 4096 * number }
+{
+    first + BLOCK as u64 * u64::from(number)
+}
+
+/// Writes a block to its place.
+fn write_block<T: Site>(
+    site: &mut T,
+    first: u64,
+    count: u32,
+    change: &Change,
+) -> Result<(), Failed>
+    requires near { first ≤ 2 ^ 30 }
+    requires whole { AreWhole count (change.now ∷ []) }
+    ensures image { OnOk result (T.image site.new ≡ option_map (written (first + 4096 * change.now.number) change.now.content) (T.image site.old)) }
+    ensures told { SameTold (T.image site.old) (T.image site.new) }
+    ensures said { T.said site.new ≡ T.said site.old }
+    ensures stops { LeavesOnly (T.moment site.old) (T.moment site.new) (T.left_at site.old) (T.left_at site.new) (PlacedFrom (T.left_at site.old (T.moment site.old)) first count (change.now ∷ [])) }
+    ensures cause { HasCause (T.disk_faults site.old) (T.disk_faults site.new) result }
+    ensures say_faults { T.say_faults site.new ≡ T.say_faults site.old }
+    ensures room { HasRoom (T.room site.old) (T.room site.new) (T.disk_faults site.old) (T.disk_faults site.new) (λ room. journal_start first count ≤ room.0) }
+{
+    site.write_at(place_of(first, change.number), &change.content)
+}
+
+/// Writes the blocks to their places in order, and syncs.
+pub(crate) fn write_blocks<T: Site>(
+    site: &mut T,
+    first: u64,
+    count: u32,
+    changes: &[Change],
+) -> Result<(), Failed>
+    requires near { first ≤ 2 ^ 30 }
+    requires whole { AreWhole count changes.now }
+    ensures image { OnOk result (T.image site.new ≡ option_map (put_image first changes.now) (T.image site.old)) }
+    ensures exact { OnOk result (IsExact (T.image site.new) (T.left_at site.new (T.moment site.new))) }
+    ensures told { SameTold (T.image site.old) (T.image site.new) }
+    ensures said { T.said site.new ≡ T.said site.old }
+    ensures stops { LeavesOnly (T.moment site.old) (T.moment site.new) (T.left_at site.old) (T.left_at site.new) (PlacedFrom (T.left_at site.old (T.moment site.old)) first count changes.now) }
+    ensures cause { HasCause (T.disk_faults site.old) (T.disk_faults site.new) result }
+    ensures say_faults { T.say_faults site.new ≡ T.say_faults site.old }
+    ensures room { HasRoom (T.room site.old) (T.room site.new) (T.disk_faults site.old) (T.disk_faults site.new) (λ room. journal_start first count ≤ room.0) }
+{
+    for change in changes {
+        write_block(site, first, count, change)?;
+    }
+    site.sync()
+}

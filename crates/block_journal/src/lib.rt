@@ -1,0 +1,8 @@
+//! Blocks that are kept through a stop of the machine: a commit is all or nothing at every moment.
+#![tactic(auto)]
+
+mod change;
+mod device;
+mod protocol;
+
+pub use change::Change;

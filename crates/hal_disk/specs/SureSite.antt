@@ -1,0 +1,20 @@
+-- What a site in memory that keeps no record shows.
+use Rattle.std.specs.Prelude.{ℕ, ◌≡◌, List}
+use Rattle.hal_disk.specs.declared.sure_site.SureSite.{SureSite}
+
+abbrev pub sure_image : SureSite → List ℕ
+sure_image site = site.image.items
+
+abbrev pub sure_said : SureSite → List ℕ
+sure_said site = site.said.items
+
+-- so long may the image be, and so much may be said, without a fault
+abbrev pub sure_room : SureSite → ℕ × ℕ
+sure_room site = (site.image_room, site.said_room)
+
+-- all but the room is as it was
+pub record KeepsContent (old new : SureSite) : Type 0 where
+  pub image : sure_image new ≡ sure_image old
+  pub said : sure_said new ≡ sure_said old
+  pub disk_faults : new.disk_faults ≡ old.disk_faults
+  pub say_faults : new.say_faults ≡ old.say_faults

@@ -1,0 +1,125 @@
+// A site in memory that tells its room.
+ghost use Rattle.std.specs.Prelude.{◌≡◌, ◌≤◌, ◌+◌, Some, [], length, OnOk};
+ghost use Rattle.std.specs.Vec.{vec_capacity};
+
+use crate::image::{copied_from, put};
+use hal_base::{Bytes, Failed, Memory, Site};
+use std::alloc::Global;
+
+/// A site in memory that keeps no record of its calls, so it tells its content and no moment. Within the room
+/// that was reserved no call fails.
+#[derive(Drop)]
+pub struct SureSite {
+    image: Vec<u8>,
+    said: Vec<u8>,
+    image_room: u64,
+    said_room: u64,
+    disk_faults: u64,
+    say_faults: u64,
+    ghost image_fits: { image_room ≤ vec_capacity image },
+    ghost said_fits: { said_room ≤ vec_capacity said },
+}
+
+impl SureSite {
+    ghost use Rattle.hal_disk.specs.SureSite.{sure_image, sure_said, sure_room, KeepsContent};
+
+    /// A site with this image, and room for no more than that.
+    pub fn new(alloc: Global, image: Bytes) -> SureSite
+        ensures image { sure_image result ≡ image }
+        ensures said { sure_said result ≡ [] }
+        ensures room { sure_room result ≡ (length image, 0) }
+    {
+        let image = image.into_vec();
+        SureSite {
+            image_room: image.len() as u64,
+            image,
+            said: Vec::new(alloc),
+            said_room: 0,
+            disk_faults: 0,
+            say_faults: 0,
+        }
+    }
+
+    /// Makes room for an image and for said bytes of these sizes.
+    pub fn reserve(&mut self, image: u64, said: u64) -> Result<(), Memory>
+        ensures room { OnOk result ((image ≤ (sure_room self.new).0) × (said ≤ (sure_room self.new).1)) }
+        ensures no_less { ((sure_room self.old).0 ≤ (sure_room self.new).0) × ((sure_room self.old).1 ≤ (sure_room self.new).1) }
+        ensures content { KeepsContent self.old self.new }
+    {
+        if self.image_room < image {
+            make_room(&mut self.image, image)?;
+            self.image_room = image;
+        }
+        if self.said_room < said {
+            make_room(&mut self.said, said)?;
+            self.said_room = said;
+        }
+        Ok(())
+    }
+
+    pub fn image(&self) -> &[u8]
+        ensures { result.now ≡ sure_image self.now }
+    {
+        &self.image
+    }
+
+    pub fn said(&self) -> &[u8]
+        ensures { result.now ≡ sure_said self.now }
+    {
+        &self.said
+    }
+}
+
+fn make_room(bytes: &mut Vec<u8>, size: u64) -> Result<(), Memory>
+    ensures room { OnOk result (size ≤ vec_capacity bytes.new) }
+    ensures items { bytes.new.items ≡ bytes.old.items }
+    ensures capacity { vec_capacity bytes.old ≤ vec_capacity bytes.new }
+{
+    Ok(bytes.reserve((size as usize).saturating_sub(bytes.len()))?)
+}
+
+impl Site for SureSite {
+    ghost image = { λ s. Some s.image.items };
+
+    ghost said = { λ s. Some s.said.items };
+
+    ghost moment = { λ _. 0 };
+
+    ghost left_at = { λ _ _ _ _. ⊥ };
+
+    ghost disk_faults = { λ s. s.disk_faults };
+
+    ghost say_faults = { λ s. s.say_faults };
+
+    ghost room = { λ s. Some (s.image_room, s.said_room) };
+
+    ghost said_now = { λ s bytes text left. absurd left };
+
+    fn read_at(&mut self, at: u64, buf: &mut [u8]) -> Result<usize, Failed> {
+        Ok(copied_from(&self.image, at, buf))
+    }
+
+    fn write_at(&mut self, at: u64, content: &[u8]) -> Result<(), Failed> {
+        if at + content.len() as u64 <= self.image_room
+            && put(&mut self.image, at as usize, content).is_ok()
+        {
+            return Ok(());
+        }
+        self.disk_faults = self.disk_faults.saturating_add(1);
+        Err(Failed)
+    }
+
+    fn sync(&mut self) -> Result<(), Failed> {
+        Ok(())
+    }
+
+    fn say(&mut self, text: &[u8]) -> Result<(), Failed> {
+        if (self.said.len() + text.len()) as u64 <= self.said_room
+            && self.said.extend_from_slice(text).is_ok()
+        {
+            return Ok(());
+        }
+        self.say_faults = self.say_faults.saturating_add(1);
+        Err(Failed)
+    }
+}
