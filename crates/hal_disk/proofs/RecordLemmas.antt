@@ -1,8 +1,10 @@
 -- A record that has one call more.
-use Rattle.std.proofs.Common.{◌≡◌, ◌⊎◌, inl, inr, ⊎_elim, ℕ, ◌+◌, ◌*◌, ◌<◌, ◌≤◌, Bool, true, false, cond, List, [], ◌∷◌, ◌++◌, length, take, drop, refl, sym, ◌∙◌, ap, subst, arith, take-append-drop}
+use Rattle.std.proofs.Common.{◌≡◌, ◌⊎◌, inl, inr, ⊎_elim, ℕ, ◌+◌, ◌*◌, ◌<◌, ◌≤◌, Bool, true, false, cond, reverse, Result, Ok, Err, OnOk, OnErr, is_ok, Option, Vec, List, [], ◌∷◌, ◌++◌, length, take, drop, refl, sym, ◌∙◌, ap, subst, arith, take-append-drop}
 use Rattle.hal_base.specs.Disk.{written, Torn}
 use Rattle.hal_base.proofs.ImageLemmas.{torn_whole, torn_none}
 use Rattle.hal_base.specs.Stops.{LeavesOnly, TornFrom, SaidFrom, IsTold}
+use Rattle.std.specs.declared.alloc.Global.{Global}
+use Rattle.hal_disk.specs.ImageNow.{image_now}
 use Rattle.hal_disk.specs.declared.call.Call.{Call}
 use Rattle.hal_disk.specs.declared.call.Call.TheVariants.{Read, Write, Sync, Say}
 use Rattle.hal_disk.specs.Record.{seen_by, said_by, MayLeave, LeavesWithin, LeftAt}
@@ -32,7 +34,7 @@ read_next first older = next first older Read (LeftAt first older (2 * length ol
 pub write_next : (first : List ℕ) (older : List Call) (at : ℕ) (content : List ℕ) (done : Bool) → LeavesOnly (2 * length older) (2 * length (Write at content done ∷ older)) (LeftAt first older) (LeftAt first (Write at content done ∷ older)) (TornFrom (LeftAt first older (2 * length older)) at (length content))
 unfolding LeavesWithin MayLeave said_by
 write_next first older at content done = next first older (Write at content done) (TornFrom (LeftAt first older (2 * length older)) at (length content))
-  (λ image text w. (w.0.0, left_now first older w.0.0 text w.0.1 w.1, w.0.2)) (λ image text may said. (may.0, left_now first older may.0 text may.1 said, may.2))
+    (λ image text w. (w.0.0, left_now first older w.0.0 text w.0.1 w.1, w.0.2)) (λ image text may said. (may.0, left_now first older may.0 text may.1 said, may.2))
 
 -- what reads is one of the images that may be left
 pub seen_left : (first : List ℕ) (calls : List Call) → MayLeave first calls (seen_by first calls)
@@ -67,5 +69,95 @@ sync_next first older done = next first older (Sync done) (LeftAt first older (2
 pub say_next : (first : List ℕ) (older : List Call) (text : List ℕ) (said : ℕ) → LeavesOnly (2 * length older) (2 * length (Say text said ∷ older)) (LeftAt first older) (LeftAt first (Say text said ∷ older)) (SaidFrom (LeftAt first older (2 * length older)) text)
 unfolding LeavesWithin MayLeave said_by
 say_next first older text said = next first older (Say text said) (SaidFrom (LeftAt first older (2 * length older)) text)
-  (λ image so_far w. (said_by older, w.1.0, w.1.1, left_now first older image (said_by older) w.0 refl, w.1.2, w.1.3))
-  (λ image so_far may is. (said_by older, take said text, drop said text, left_now first older image (said_by older) may refl, sym (take-append-drop said text), is))
+    (λ image so_far w. (said_by older, w.1.0, w.1.1, left_now first older image (said_by older) w.0 refl, w.1.2, w.1.3))
+    (λ image so_far may is. (said_by older, take said text, drop said text, left_now first older image (said_by older) may refl, sym (take-append-drop said text), is))
+
+-- before the first call
+pub none_seen : (first : List ℕ) (calls : List Call) → calls ≡ [] → first ≡ seen_by first (reverse calls)
+unfolding seen_by
+none_seen first calls is = sym (ap (λ (l : List Call). seen_by first (reverse l)) is)
+
+pub none_said : (said : List ℕ) (calls : List Call) → said ≡ [] → calls ≡ [] → said ≡ said_by (reverse calls)
+unfolding said_by
+none_said said calls none is = none ∙ sym (ap (λ (l : List Call). said_by (reverse l)) is)
+
+-- the record with one call more, as the site has it
+pub read_more : (first : List ℕ) (older newer : List Call) → newer ≡ Read ∷ older → LeavesOnly (2 * length older) (2 * length newer) (LeftAt first older) (LeftAt first newer) (LeftAt first older (2 * length older))
+read_more first older newer is = subst (λ (l : List Call). LeavesOnly (2 * length older) (2 * length l) (LeftAt first older) (LeftAt first l) (LeftAt first older (2 * length older))) (sym is) (read_next first older)
+
+pub sync_more : (first : List ℕ) (older newer : List Call) (done : Bool) → newer ≡ Sync done ∷ older → LeavesOnly (2 * length older) (2 * length newer) (LeftAt first older) (LeftAt first newer) (LeftAt first older (2 * length older))
+sync_more first older newer done is = subst (λ (l : List Call). LeavesOnly (2 * length older) (2 * length l) (LeftAt first older) (LeftAt first l) (LeftAt first older (2 * length older))) (sym is) (sync_next first older done)
+
+pub write_more : (first : List ℕ) (older newer : List Call) (at : ℕ) (content : List ℕ) (done : Bool) → newer ≡ Write at content done ∷ older → LeavesOnly (2 * length older) (2 * length newer) (LeftAt first older) (LeftAt first newer) (TornFrom (LeftAt first older (2 * length older)) at (length content))
+write_more first older newer at content done is = subst (λ (l : List Call). LeavesOnly (2 * length older) (2 * length l) (LeftAt first older) (LeftAt first l) (TornFrom (LeftAt first older (2 * length older)) at (length content))) (sym is) (write_next first older at content done)
+
+pub say_more : (first : List ℕ) (older newer : List Call) (text : List ℕ) (said : ℕ) → newer ≡ Say text said ∷ older → LeavesOnly (2 * length older) (2 * length newer) (LeftAt first older) (LeftAt first newer) (SaidFrom (LeftAt first older (2 * length older)) text)
+say_more first older newer text said is = subst (λ (l : List Call). LeavesOnly (2 * length older) (2 * length l) (LeftAt first older) (LeftAt first l) (SaidFrom (LeftAt first older (2 * length older)) text)) (sym is) (say_next first older text said)
+
+-- what reads, and what was said, after one call more
+pub seen_more : (first : List ℕ) (older newer : List Call) (call : Call) (image : List ℕ) → newer ≡ call ∷ older → image ≡ seen_by first (call ∷ older) → image ≡ seen_by first newer
+seen_more first older newer call image is seen = seen ∙ sym (ap (seen_by first) is)
+
+pub said_more : (older newer : List Call) (call : Call) (said : List ℕ) → newer ≡ call ∷ older → said ≡ said_by (call ∷ older) → said ≡ said_by newer
+said_more older newer call said is so = so ∙ sym (ap said_by is)
+
+pub seen_write : (first : List ℕ) (older : List Call) (at : ℕ) (content image next : List ℕ) (done : Bool) → image ≡ seen_by first older → next ≡ cond done (written at content image) image → next ≡ seen_by first (Write at content done ∷ older)
+unfolding seen_by
+seen_write first older at content image next true is to = to ∙ ap (written at content) is
+seen_write first older at content image next false is to = to ∙ is
+
+pub newer_is : (call : Call) (old slot new : List Call) → reverse new ≡ call ∷ reverse slot → slot ≡ old → reverse new ≡ call ∷ reverse old
+newer_is call old slot new is same = is ∙ ap (λ (l : List Call). call ∷ reverse l) same
+
+pub read_image : (first : List ℕ) (older newer : List Call) (image : List ℕ) → newer ≡ Read ∷ older → image ≡ seen_by first older → image ≡ seen_by first newer
+unfolding seen_by
+read_image first older newer image is seen = seen ∙ sym (ap (seen_by first) is)
+
+pub read_said : (older newer : List Call) (said : List ℕ) → newer ≡ Read ∷ older → said ≡ said_by older → said ≡ said_by newer
+unfolding said_by
+read_said older newer said is so = so ∙ sym (ap said_by is)
+
+pub sync_image : (first : List ℕ) (older newer : List Call) (done : Bool) (image : List ℕ) → newer ≡ Sync done ∷ older → image ≡ seen_by first older → image ≡ seen_by first newer
+unfolding seen_by
+sync_image first older newer done image is seen = seen ∙ sym (ap (seen_by first) is)
+
+pub sync_said : (older newer : List Call) (done : Bool) (said : List ℕ) → newer ≡ Sync done ∷ older → said ≡ said_by older → said ≡ said_by newer
+unfolding said_by
+sync_said older newer done said is so = so ∙ sym (ap said_by is)
+
+pub write_image : (first : List ℕ) (older newer : List Call) (at : ℕ) (content image next : List ℕ) (done : Bool) → newer ≡ Write at content done ∷ older → image ≡ seen_by first older → next ≡ cond done (written at content image) image → next ≡ seen_by first newer
+write_image first older newer at content image next done is seen to = seen_write first older at content image next done seen to ∙ sym (ap (seen_by first) is)
+
+pub write_said : (older newer : List Call) (at : ℕ) (content : List ℕ) (done : Bool) (said : List ℕ) → newer ≡ Write at content done ∷ older → said ≡ said_by older → said ≡ said_by newer
+unfolding said_by
+write_said older newer at content done said is so = so ∙ sym (ap said_by is)
+
+pub say_image : (first : List ℕ) (older newer : List Call) (text : List ℕ) (n : ℕ) (image : List ℕ) → newer ≡ Say text n ∷ older → image ≡ seen_by first older → image ≡ seen_by first newer
+unfolding seen_by
+say_image first older newer text n image is seen = seen ∙ sym (ap (seen_by first) is)
+
+pub say_said : (older newer : List Call) (text : List ℕ) (n : ℕ) (said next : List ℕ) → newer ≡ Say text n ∷ older → said ≡ said_by older → next ≡ said ++ take n text → next ≡ said_by newer
+unfolding said_by
+say_said older newer text n said next is so to = to ∙ ap (λ (l : List ℕ). l ++ take n text) so ∙ sym (ap said_by is)
+
+pub sync_durable : (first : List ℕ) (older newer : List Call) (image : List ℕ) → newer ≡ Sync true ∷ older → image ≡ seen_by first older → (bytes text : List ℕ) → LeftAt first newer (2 * length newer) bytes text → bytes ≡ image
+sync_durable first older newer image is seen bytes text left =
+    sync_done first older (2 * length newer) bytes text (ap (λ (l : List Call). 2 * length l) is) (subst (λ (l : List Call). LeftAt first l (2 * length newer) bytes text) is left) ∙ sym seen
+
+pub on_ok : {T E P : Type 0} (result : Result T E) (done : Bool) → is_ok result ≡ done → (done ≡ true → P) → OnOk result P
+on_ok (Ok x) done is so = so (sym is)
+on_ok (Err e) done is so = tt
+
+pub on_err : {T E P : Type 0} (result : Result T E) (done : Bool) → is_ok result ≡ done → (done ≡ false → P) → OnErr result P
+on_err (Ok x) done is so = tt
+on_err (Err e) done is so = so (sym is)
+
+pub any_err : {T E P : Type 0} (result : Result T E) → P → OnErr result P
+any_err (Ok x) p = tt
+any_err (Err e) p = p
+
+pub durable_if : (first : List ℕ) (older newer : List Call) (done : Bool) (image : List ℕ) → newer ≡ Sync done ∷ older → image ≡ seen_by first older → done ≡ true → (bytes text : List ℕ) → LeftAt first newer (2 * length newer) bytes text → bytes ≡ image
+durable_if first older newer done image is seen was = sync_durable first older newer image (is ∙ ap (λ (d : Bool). Sync d ∷ older) was) seen
+
+pub put_first : (f g : List ℕ) (old new : Option (Vec ℕ Global)) (at : ℕ) (content : List ℕ) (done : Bool) → f ≡ g → image_now f new ≡ cond done (written at content (image_now f old)) (image_now f old) → image_now g new ≡ cond done (written at content (image_now g old)) (image_now g old)
+put_first f g old new at content done is so = subst (λ (f : List ℕ). image_now f new ≡ cond done (written at content (image_now f old)) (image_now f old)) is so

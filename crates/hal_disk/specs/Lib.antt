@@ -1,4 +1,6 @@
 pub mod FileSite
+pub mod ImageNow
+pub mod MemSite
 pub mod MemSource
 pub mod Record
 pub mod RecordLaw

@@ -1,6 +1,6 @@
 -- Between two calls a stop leaves just what was said.
 use Rattle.std.specs.Prelude.{◌≡◌, ◌⊎◌, ℕ, ◌+◌, ◌*◌, ◌≤◌, List, [], ◌∷◌, length}
-use Rattle.std.proofs.Common.{inl, inr, arith}
+use Rattle.std.proofs.Common.{inl, inr, refl, sym, ◌∙◌, arith}
 use Rattle.hal_disk.specs.declared.call.Call.{Call}
 use Rattle.hal_disk.specs.Record.{said_by, LeftAt}
 
@@ -18,3 +18,6 @@ said_last first [] moment image text now left = left.2
 said_last first (call ∷ older) moment image text now (inl before) = absurd (omega (arith, now, left_by first older moment image text before))
 said_last first (call ∷ older) moment image text now (inr (inl within)) = absurd (omega (arith, now, within.0))
 said_last first (call ∷ older) moment image text now (inr (inr after)) = after.2
+
+pub said_last_is : (first : List ℕ) (calls : List Call) (said image text : List ℕ) → said ≡ said_by calls → LeftAt first calls (2 * length calls) image text → text ≡ said
+said_last_is first calls said image text is left = said_last first calls (2 * length calls) image text refl left ∙ sym is

@@ -4,16 +4,7 @@ use hal_base::Bytes;
 #[derive(Debug, Drop)]
 pub enum Call {
     Read,
-    Write {
-        at: u64,
-        content: Bytes,
-        done: bool,
-    },
-    Sync {
-        done: bool,
-    },
-    Say {
-        text: Bytes,
-        said: usize,
-    },
+    Write { at: u64, content: Bytes, done: bool },
+    Sync { done: bool },
+    Say { text: Bytes, said: usize },
 }

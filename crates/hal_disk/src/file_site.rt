@@ -3,11 +3,10 @@ ghost use Rattle.std.specs.Prelude.{◌≡◌, ◌≤◌, ◌+◌, ◌^◌, None
 
 use hal_base::{Bytes, Failed, Site};
 use std::fs::{File, OpenOptions};
-use std::io;
 use std::io::Write;
 use std::os::unix::fs::FileExt;
 use std::rt::Files;
-use std::str;
+use std::{io, str};
 
 /// A volume in a file, which is opened at the first read, write or sync. It says to standard output. Each
 /// error of the system raises a count.
@@ -42,8 +41,9 @@ impl<R: Files<File = File> + Print + Drop> FileSite<R> {
         ensures { KeepsCounts self.old self.new }
     {
         if self.file.is_none() {
-            let path = str::from_utf8(self.path.as_slice())
-                .map_err(|_| io::Error::from(io::ErrorKind::InvalidInput))?;
+            let path = str::from_utf8(self.path.as_slice()).map_err(|_| io::Error::from(
+                io::ErrorKind::InvalidInput,
+            ))?;
             let file = OpenOptions::new()
                 .read(true)
                 .write(true)

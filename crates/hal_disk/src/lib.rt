@@ -6,12 +6,14 @@ mod call;
 mod file_site;
 mod image;
 mod input_source;
+mod mem_site;
 mod mem_source;
 mod sure_site;
 
 pub use call::Call;
 pub use file_site::FileSite;
 pub use input_source::InputSource;
+pub use mem_site::MemSite;
 pub use mem_source::{MemSource, SureSource};
 pub use sure_site::SureSite;
 
