@@ -18,7 +18,7 @@ pub use blocks::{BLOCK, Blocks};
 pub use bytes::{Bytes, Key};
 pub use list::List;
 pub use live::Live;
-pub use name::Name8;
+pub use name::{Name8, upper_case};
 pub use numbers::{get16, get32, put16, put32};
 pub use outcome::{Failed, JournalFault, Memory, StageFault};
 pub use place::{Cursor, Ilk, PartState, Shape};
