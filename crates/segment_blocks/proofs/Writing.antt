@@ -2,7 +2,7 @@
 use Rattle.std.proofs.Common.{◌≡◌, ℕ, ◌+◌, ◌-◌, ◌*◌, ◌<◌, ◌≤◌, List, [], ◌∷◌, ◌++◌, length, take, drop, replicate, get_or, refl, sym, ap, subst, ◌∙◌, append_assoc, arith}
 use Rattle.std.specs.List.{flat_map}
 use Rattle.std.specs.Int.{w16, w32, to_be_bytes}
-use Rattle.std.proofs.lemmas.List.{length-append, length-take-le, length-drop, take_at, drop_at, drop-drop, drop-append-le, take_more, append-nil}
+use Rattle.std.proofs.lemmas.List.{length-append, length-take-le, length-drop, take_at, drop_at, drop-drop, drop-append-le, take_more, drop-take, take-append-drop, append-nil}
 use Rattle.std.proofs.lemmas.List.Concat.{flat_map-append}
 use Rattle.hal_base.specs.declared.place.Shape.{Shape}
 use Rattle.segment_blocks.specs.declared.tile.Cell.{Cell}
@@ -10,7 +10,7 @@ use Rattle.segment_blocks.specs.declared.tile.Tile.{Tile}
 use Rattle.segment_blocks.specs.Tiling.{AreTiles, IsTiling, StandAround, Writes, used_of, cell_length, shape_of, spelled_head, spelled_cell, spelled_hole, spelling, spelled}
 use Rattle.segment_blocks.proofs.Addresses.{length-spelled_addresses}
 use Rattle.segment_blocks.proofs.Cells.{used-le-length}
-use Rattle.segment_blocks.proofs.Tilings.{spelled-append}
+use Rattle.segment_blocks.proofs.Tilings.{spelled-append, spelled-push}
 
 pub writes_then : (old mid new : List ℕ) (at pos : ℕ) (x y : List ℕ) → at + length x ≤ length old → pos ≡ at + length x → Writes old mid at x → Writes mid new pos y → Writes old new at (x ++ y)
 writes_then old mid new at pos x y room place first second =
@@ -84,3 +84,45 @@ hole_written len at old b1 b2 least room w1 w2 =
 
 pub writes_same : (old new : List ℕ) (at pos : ℕ) (x y : List ℕ) → at ≡ pos → x ≡ y → Writes old new at x → Writes old new pos y
 writes_same old new at pos x y place same written = subst (λ (n : ℕ). Writes old new n y) place (subst (Writes old new at) same written)
+
+-- a tile that is written behind others joins them
+pub writes_joins : (old new : List ℕ) (at end next : ℕ) (tile : Tile) (before after : List Tile) → 16 ≤ at → next ≡ at + length (spelling tile) → next ≤ length old → next ≤ end → Writes old new at (spelling tile)
+    → StandAround old at end before after → StandAround new next end (before ++ tile ∷ []) after
+writes_joins old new at end next tile before after body place room short written around =
+    let x : List ℕ = spelling tile in
+    let rest : List ℕ = drop (at + length x) old in
+    let long : length (take at old) ≡ at = length-take-le at old (omega (arith, room, place)) in
+    let front : length (take at old ++ x) ≡ next = omega (arith, long, place, length-append (take at old) x) in
+    let first : take next new ≡ take at old ++ x = ap (take next) written ∙ take_at (take at old ++ x) rest next front in
+    let second : drop next new ≡ drop next old = ap (drop next) written ∙ drop_at (take at old ++ x) rest next front ∙ ap (λ (n : ℕ). drop n old) (sym place) in
+    let sum : next + (end - next) ≡ end = omega arith in
+    let last : drop end new ≡ drop end old =
+        ap (λ (n : ℕ). drop n new) (sym sum) ∙ sym (drop-drop (end - next) next new) ∙ ap (drop (end - next)) second ∙ drop-drop (end - next) next old ∙ ap (λ (n : ℕ). drop n old) sum in
+    record {
+      before = ap (drop 16) first ∙ drop-append-le 16 (take at old) x (omega (arith, long, body)) ∙ ap (λ (z : List ℕ). z ++ x) around.before ∙ sym (spelled-push before tile);
+      after = last ∙ around.after;
+    }
+
+-- the tiles of a block stand around each run of them
+pub run_opened : (shapes : List Shape) (block : List ℕ) (before run after : List Tile) → IsTiling shapes block (before ++ (run ++ after))
+    → StandAround block (16 + length (spelled before)) (16 + length (spelled before) + length (spelled run)) before after
+run_opened shapes block before run after t =
+    let at : ℕ = 16 + length (spelled before) in
+    let rest : List ℕ = spelled run ++ spelled after in
+    let whole : drop 16 block ≡ spelled before ++ rest = t.whole ∙ spelled-append before (run ++ after) ∙ ap (λ (z : List ℕ). spelled before ++ z) (spelled-append run after) in
+    let before_part : drop 16 (take at block) ≡ spelled before = drop-take 16 (length (spelled before)) block ∙ ap (take (length (spelled before))) whole ∙ take_at (spelled before) rest (length (spelled before)) refl in
+    let from_run : drop at block ≡ rest = sym (drop-drop (length (spelled before)) 16 block) ∙ ap (drop (length (spelled before))) whole ∙ drop_at (spelled before) rest (length (spelled before)) refl in
+    record {
+      before = before_part;
+      after = sym (drop-drop (length (spelled run)) at block) ∙ ap (drop (length (spelled run))) from_run ∙ drop_at (spelled run) (spelled after) (length (spelled run)) refl;
+    }
+
+-- tiles that leave nothing between them are a tiling
+pub run_closed : (shapes : List Shape) (block : List ℕ) (at : ℕ) (before after : List Tile) → 16 ≤ at → at ≤ length block → StandAround block at at before after → AreTiles shapes (before ++ after) → IsTiling shapes block (before ++ after)
+run_closed shapes block at before after body room around are =
+    let long : 16 ≤ length (take at block) = omega (arith, length-take-le at block room) in
+    record {
+      tiled = are;
+      whole = ap (drop 16) (sym (take-append-drop at block)) ∙ drop-append-le 16 (take at block) (drop at block) long
+          ∙ ap (λ (z : List ℕ). z ++ drop at block) around.before ∙ ap (λ (z : List ℕ). spelled before ++ z) around.after ∙ sym (spelled-append before after);
+    }

@@ -6,7 +6,7 @@ mod parse;
 mod tile;
 mod write;
 
-pub use laws::one_tiling;
+pub use laws::{one_tiling, others_stand_around};
 pub use parse::parse_block;
 pub use tile::{BlockFault, Cell, Tile};
 pub use write::{cell_size, write_cell, write_hole};

@@ -1,4 +1,4 @@
-ghost use Rattle.std.specs.Prelude.{◌≡◌, ◌≤◌, ◌<◌, ◌+◌, ◌-◌, ◌*◌, ◌%◌, ◌^◌, ◌∷◌, ◌++◌, List, length, replicate};
+ghost use Rattle.std.specs.Prelude.{◌≡◌, ℕ, [], ◌≤◌, ◌<◌, ◌+◌, ◌-◌, ◌*◌, ◌%◌, ◌^◌, ◌∷◌, ◌++◌, List, length, replicate};
 ghost use Rattle.std.specs.List.{flat_map, AllByRecursion};
 ghost use Rattle.std.specs.Int.{w32, to_be_bytes};
 ghost use Rattle.hal_base.specs.declared.place.Shape.{Shape as ShapeOf};
@@ -74,6 +74,9 @@ pub fn write_cell(shape: Shape, block: &mut [u8; 4096], at: u16, cell: &Cell)
     // Where it and the other tiles are a tiling, the block has this tiling.
     ensures tiled { (shapes : List ShapeOf) (before after : List Tile) → AreTiles shapes (before ++ Tile.Seg at cell.now ∷ after) →
         StandAround block.old at (at + cell_length shape) before after → IsTiling shapes block.new (before ++ Tile.Seg at cell.now ∷ after) }
+    // It joins the tiles that stand before it, whatever stood up to `end`.
+    ensures joins { (end : ℕ) (before after : List Tile) → at + cell_length shape ≤ end → StandAround block.old at end before after →
+        StandAround block.new (at + cell_length shape) end (before ++ Tile.Seg at cell.now ∷ []) after }
     ensures fits { Fits cell.now }
 {
     let at = usize::from(at);
@@ -96,6 +99,9 @@ pub fn write_hole(block: &mut [u8; 4096], at: u16, len: u16)
     // Where it and the other tiles are a tiling, the block has this tiling.
     ensures tiled { (shapes : List ShapeOf) (before after : List Tile) → AreTiles shapes (before ++ Tile.Hole at len ∷ after) →
         StandAround block.old at (at + len) before after → IsTiling shapes block.new (before ++ Tile.Hole at len ∷ after) }
+    // It joins the tiles that stand before it, whatever stood up to `end`.
+    ensures joins { (end : ℕ) (before after : List Tile) → at + len ≤ end → StandAround block.old at end before after →
+        StandAround block.new (at + len) end (before ++ Tile.Hole at len ∷ []) after }
 {
     let at = usize::from(at);
     let [high, low] = len.to_be_bytes();

@@ -4,7 +4,7 @@ use Rattle.std.specs.Int.{w32, to_be_bytes}
 use Rattle.segment_blocks.specs.declared.tile.Tile.TheVariants.{Seg}
 use Rattle.segment_blocks.specs.Tiling.{Writes, used_of, cell_length, shape_of, spelled_head, spelled_cell}
 use Rattle.segment_blocks.proofs.Cells.{length-spelled_cell}
-use Rattle.segment_blocks.proofs.Writing.{cell_written, writes_same, writes_tiling}
+use Rattle.segment_blocks.proofs.Writing.{cell_written, writes_same, writes_tiling, writes_joins}
 use Rattle.segment_blocks.proofs.write.write_cell.Goals as goal
 
 pub returns-clause-written : goal.returns-clause-written
@@ -33,3 +33,9 @@ returns-clause-tiled c = λ shapes before after are around.
     let ends : c.args.at + cell_length c.args.shape ≡ c.args.at + length (spelled_cell c.args.cell.now) = omega (arith, length-spelled_cell c.args.cell.now, c.requires.children, c.requires.content) in
     writes_tiling shapes c.args.block.now c.put_zeros.new.block c.args.at (c.args.at + cell_length c.args.shape) (Seg c.args.at c.args.cell.now) before after
     c.requires.body (omega (arith, c.requires.room)) ends (returns-clause-written c) are around
+
+pub returns-clause-joins : goal.returns-clause-joins
+returns-clause-joins c = λ end before after short around.
+    let ends : c.args.at + cell_length c.args.shape ≡ c.args.at + length (spelled_cell c.args.cell.now) = omega (arith, length-spelled_cell c.args.cell.now, c.requires.children, c.requires.content) in
+    writes_joins c.args.block.now c.put_zeros.new.block c.args.at end (c.args.at + cell_length c.args.shape) (Seg c.args.at c.args.cell.now) before after
+        c.requires.body ends (omega (arith, c.requires.room)) short (returns-clause-written c) around

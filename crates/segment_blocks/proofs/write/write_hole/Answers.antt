@@ -3,7 +3,7 @@ use Rattle.std.specs.Int.{w16, to_be_bytes}
 use Rattle.segment_blocks.specs.declared.tile.Tile.TheVariants.{Hole}
 use Rattle.segment_blocks.specs.Tiling.{Writes, spelled_hole}
 use Rattle.segment_blocks.proofs.Holes.{length-spelled_hole}
-use Rattle.segment_blocks.proofs.Writing.{hole_written, writes_same, writes_tiling}
+use Rattle.segment_blocks.proofs.Writing.{hole_written, writes_same, writes_tiling, writes_joins}
 use Rattle.segment_blocks.proofs.write.write_hole.Goals as goal
 
 pub returns-clause-written : goal.returns-clause-written
@@ -20,3 +20,9 @@ returns-clause-tiled c = λ shapes before after are around.
     let ends : c.args.at + c.args.len ≡ c.args.at + length (spelled_hole c.args.len) = omega (arith, length-spelled_hole c.args.len c.requires.least) in
     writes_tiling shapes c.args.block.now c.put_zeros.new.block c.args.at (c.args.at + c.args.len) (Hole c.args.at c.args.len) before after
     c.requires.body (omega (arith, c.requires.room)) ends (returns-clause-written c) are around
+
+pub returns-clause-joins : goal.returns-clause-joins
+returns-clause-joins c = λ end before after short around.
+    let ends : c.args.at + c.args.len ≡ c.args.at + length (spelled_hole c.args.len) = omega (arith, length-spelled_hole c.args.len c.requires.least) in
+    writes_joins c.args.block.now c.put_zeros.new.block c.args.at end (c.args.at + c.args.len) (Hole c.args.at c.args.len) before after
+        c.requires.body ends (omega (arith, c.requires.room)) short (returns-clause-written c) around
