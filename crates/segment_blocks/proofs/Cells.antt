@@ -1,14 +1,14 @@
 -- A cell that is read is spelled so, and what spells a cell is read as that cell.
-use Rattle.std.proofs.Common.{◌≡◌, ℕ, zero, suc, ◌^◌, ◌+◌, ◌-◌, ◌*◌, ◌/◌, ◌<◌, ◌≤◌, ◌⊎◌, Bool, true, false, cond, eqb, List, [], ◌∷◌, ◌++◌, length, get_or, take, drop, replicate, Some, refl, sym, ap, subst, ◌∙◌, append_assoc, arith, inl, inr}
+use Rattle.std.proofs.Common.{◌≡◌, ℕ, zero, suc, ◌^◌, ◌+◌, ◌-◌, ◌*◌, ◌<◌, ◌≤◌, Bool, true, false, cond, eqb, List, ◌∷◌, ◌++◌, length, get_or, take, drop, replicate, Some, refl, sym, ap, subst, ◌∙◌, append_assoc, arith}
 use Rattle.std.specs.Prelude.{slice_get}
 use Rattle.std.specs.List.{flat_map}
-use Rattle.std.specs.Int.{w16, w32, to_be_bytes, from_be_bytes}
+use Rattle.std.specs.Int.{w16, w32, to_be_bytes}
 use Rattle.std.proofs.lemmas.List.{take-append-drop, take_at, drop_at, drop-drop, length-append, length-take-le, length-drop, length-replicate}
 use Rattle.std.proofs.lemmas.Nat.{be_bytes_2, be_bytes_4, from_be_bytes-to_be_bytes_2, from_be_bytes-to_be_bytes_4}
 use Rattle.hal_base.specs.declared.place.Shape.{Shape}
 use Rattle.segment_blocks.specs.declared.tile.Cell.{Cell}
 use Rattle.segment_blocks.specs.Tiling.{used_of, cell_length, shape_of, spelled_head, spelled_cell, Fits, IsCell}
-use Rattle.segment_blocks.specs.Reading.{number16, number32, HasZeros, HasShape, BeginsWithCell, addresses_in, cell_in}
+use Rattle.segment_blocks.specs.Reading.{number16, number32, HasZeros, BeginsWithCell, addresses_in, cell_in}
 use Rattle.segment_blocks.proofs.Addresses.{IsBytes, IsBytes-take, IsBytes-drop, addresses_fit, addresses_back, addresses_again, length-addresses_in, length-spelled_addresses}
 
 pub used-le-length : (shape : Shape) → used_of shape ≤ cell_length shape

@@ -1,5 +1,5 @@
 -- A body has one tiling or stops at one offset, and not both.
-use Rattle.std.proofs.Common.{◌≡◌, ℕ, ◌+◌, ◌-◌, ◌<◌, ◌≤◌, false, List, [], ◌∷◌, ◌++◌, length, drop, Result, Ok, Err, refl, sym, ap, ◌∙◌, arith, inl, inr}
+use Rattle.std.proofs.Common.{◌≡◌, ℕ, ◌+◌, ◌<◌, false, List, [], ◌++◌, length, drop, Result, Ok, Err, refl, sym, ap, ◌∙◌, arith, inl, inr}
 use Rattle.std.specs.Prelude.{IfOk, MatchResult}
 use Rattle.std.proofs.lemmas.Bool.{cases_lt}
 use Rattle.std.proofs.lemmas.List.{length-drop, drop_at, append-nil}
@@ -7,7 +7,7 @@ use Rattle.hal_base.specs.declared.place.Shape.{Shape}
 use Rattle.segment_blocks.specs.declared.tile.Tile.{Tile}
 use Rattle.segment_blocks.specs.declared.tile.BlockFault.{BlockFault}
 use Rattle.segment_blocks.specs.declared.tile.BlockFault.TheVariants.{BadTile, Memory}
-use Rattle.segment_blocks.specs.Tiling.{LeadsTo, IsTiling, StopsAt, spelling, spelled}
+use Rattle.segment_blocks.specs.Tiling.{IsTiling, StopsAt, spelling, spelled}
 use Rattle.segment_blocks.proofs.Tilings.{one_tiling, Continues, tiling_continues}
 use Rattle.segment_blocks.proofs.Progress.{leads_on}
 

@@ -2,7 +2,7 @@
 use Rattle.std.proofs.Common.{◌≡◌, ℕ, ◌+◌, ◌-◌, ◌*◌, ◌<◌, ◌≤◌, List, [], ◌∷◌, ◌++◌, length, take, drop, replicate, get_or, refl, sym, ap, subst, ◌∙◌, append_assoc, arith}
 use Rattle.std.specs.List.{flat_map}
 use Rattle.std.specs.Int.{w16, w32, to_be_bytes}
-use Rattle.std.proofs.lemmas.List.{length-append, length-take-le, length-drop, take_at, drop_at, drop-drop, drop-append-le, take_more, drop-take, take-append-drop, append-nil}
+use Rattle.std.proofs.lemmas.List.{length-append, length-take-le, take_at, drop_at, drop-drop, drop-append-le, take_more, drop-take, take-append-drop, append-nil}
 use Rattle.std.proofs.lemmas.List.Concat.{flat_map-append}
 use Rattle.hal_base.specs.declared.place.Shape.{Shape}
 use Rattle.segment_blocks.specs.declared.tile.Cell.{Cell}
@@ -97,7 +97,7 @@ writes_joins old new at end next tile before after body place room short written
     let second : drop next new ≡ drop next old = ap (drop next) written ∙ drop_at (take at old ++ x) rest next front ∙ ap (λ (n : ℕ). drop n old) (sym place) in
     let sum : next + (end - next) ≡ end = omega arith in
     let last : drop end new ≡ drop end old =
-        ap (λ (n : ℕ). drop n new) (sym sum) ∙ sym (drop-drop (end - next) next new) ∙ ap (drop (end - next)) second ∙ drop-drop (end - next) next old ∙ ap (λ (n : ℕ). drop n old) sum in
+    ap (λ (n : ℕ). drop n new) (sym sum) ∙ sym (drop-drop (end - next) next new) ∙ ap (drop (end - next)) second ∙ drop-drop (end - next) next old ∙ ap (λ (n : ℕ). drop n old) sum in
     record {
       before = ap (drop 16) first ∙ drop-append-le 16 (take at old) x (omega (arith, long, body)) ∙ ap (λ (z : List ℕ). z ++ x) around.before ∙ sym (spelled-push before tile);
       after = last ∙ around.after;

@@ -22,5 +22,4 @@ pub fn others_stand_around()
         StandAround block (16 + length (spelled before)) (16 + length (spelled before) + length (spelled run)) before after }
     ensures closed { (shapes : List Shape) (block : List ℕ) (at : ℕ) (before after : List Tile) → 16 ≤ at → at ≤ length block →
         StandAround block at at before after → AreTiles shapes (before ++ after) → IsTiling shapes block (before ++ after) }
-{
-}
+{}

@@ -8,7 +8,7 @@ use crate::{BlockFault, Cell, Tile};
 use hal_base::{Bytes, Ilk, List, Memory, Shape, get16, get32};
 use std::alloc::Global;
 
-pub fn length_of(shape: Shape) -> usize
+pub(crate) fn length_of(shape: Shape) -> usize
     ensures { result ≡ cell_length shape }
 {
     let used = 16 + 4 * usize::from(shape.children) + usize::from(shape.bytes);

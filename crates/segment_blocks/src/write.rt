@@ -9,7 +9,7 @@ use crate::Cell;
 use crate::parse::length_of;
 use hal_base::{Ilk, Shape, put16, put32};
 
-fn put(block: &mut [u8], at: usize, bytes: &[u8])
+pub(crate) fn put(block: &mut [u8], at: usize, bytes: &[u8])
     requires { at + length bytes.now ≤ length block.old }
     ensures { Writes block.old block.new at bytes.now }
 {

@@ -1,4 +1,4 @@
-use Rattle.std.proofs.Common.{◌≡◌, ◌<◌, ◌^◌, ◌≤◌, length, arith, true, false, refl}
+use Rattle.std.proofs.Common.{◌≡◌, ◌<◌, ◌^◌, length, arith, true, false, refl}
 use Rattle.segment_blocks.specs.Reading.{BeginsWithHole}
 use Rattle.segment_blocks.proofs.Tiles.{hole_found, cell_found, no_tile}
 use Rattle.segment_blocks.proofs.parse.next_tile.Goals as goal

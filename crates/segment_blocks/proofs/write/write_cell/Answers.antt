@@ -1,8 +1,8 @@
-use Rattle.std.proofs.Common.{◌≡◌, ℕ, ◌+◌, ◌-◌, ◌*◌, ◌≤◌, List, length, replicate, refl, subst, sym, ap, ◌∙◌, arith}
+use Rattle.std.proofs.Common.{◌≡◌, ℕ, ◌+◌, ◌-◌, ◌*◌, ◌≤◌, length, refl, ap, ◌∙◌, arith}
 use Rattle.std.specs.List.{flat_map}
 use Rattle.std.specs.Int.{w32, to_be_bytes}
 use Rattle.segment_blocks.specs.declared.tile.Tile.TheVariants.{Seg}
-use Rattle.segment_blocks.specs.Tiling.{Writes, used_of, cell_length, shape_of, spelled_head, spelled_cell}
+use Rattle.segment_blocks.specs.Tiling.{Writes, cell_length, shape_of, spelled_head, spelled_cell}
 use Rattle.segment_blocks.proofs.Cells.{length-spelled_cell}
 use Rattle.segment_blocks.proofs.Writing.{cell_written, writes_same, writes_tiling, writes_joins}
 use Rattle.segment_blocks.proofs.write.write_cell.Goals as goal
@@ -38,4 +38,4 @@ pub returns-clause-joins : goal.returns-clause-joins
 returns-clause-joins c = λ end before after short around.
     let ends : c.args.at + cell_length c.args.shape ≡ c.args.at + length (spelled_cell c.args.cell.now) = omega (arith, length-spelled_cell c.args.cell.now, c.requires.children, c.requires.content) in
     writes_joins c.args.block.now c.put_zeros.new.block c.args.at end (c.args.at + cell_length c.args.shape) (Seg c.args.at c.args.cell.now) before after
-        c.requires.body ends (omega (arith, c.requires.room)) short (returns-clause-written c) around
+    c.requires.body ends (omega (arith, c.requires.room)) short (returns-clause-written c) around

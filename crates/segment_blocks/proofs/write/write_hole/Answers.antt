@@ -1,4 +1,4 @@
-use Rattle.std.proofs.Common.{◌≡◌, ℕ, ◌+◌, ◌-◌, ◌≤◌, List, [], ◌∷◌, ◌++◌, length, get_or, replicate, refl, subst, sym, ap, ◌∙◌, arith}
+use Rattle.std.proofs.Common.{◌≡◌, ℕ, ◌+◌, ◌-◌, List, [], ◌∷◌, length, get_or, replicate, ap, arith}
 use Rattle.std.specs.Int.{w16, to_be_bytes}
 use Rattle.segment_blocks.specs.declared.tile.Tile.TheVariants.{Hole}
 use Rattle.segment_blocks.specs.Tiling.{Writes, spelled_hole}
@@ -25,4 +25,4 @@ pub returns-clause-joins : goal.returns-clause-joins
 returns-clause-joins c = λ end before after short around.
     let ends : c.args.at + c.args.len ≡ c.args.at + length (spelled_hole c.args.len) = omega (arith, length-spelled_hole c.args.len c.requires.least) in
     writes_joins c.args.block.now c.put_zeros.new.block c.args.at end (c.args.at + c.args.len) (Hole c.args.at c.args.len) before after
-        c.requires.body ends (omega (arith, c.requires.room)) short (returns-clause-written c) around
+    c.requires.body ends (omega (arith, c.requires.room)) short (returns-clause-written c) around
