@@ -4,16 +4,10 @@ ghost use Rattle.segment_blocks.specs.declared.tile.Tile.{Tile as TileOf};
 ghost use Rattle.segment_blocks.specs.Tiling.{cell_length, is_hole, IsTiling, StopsAt};
 ghost use Rattle.segment_blocks.specs.Reading.{HasZeros, BeginsWithHole, HasShape, BeginsWithCell, addresses_in, cell_in, BeginsWith};
 
+use crate::size::{length_of, used_by};
 use crate::{BlockFault, Cell, Tile};
 use hal_base::{Bytes, Ilk, List, Memory, Shape, get16, get32};
 use std::alloc::Global;
-
-pub(crate) fn length_of(shape: Shape) -> usize
-    ensures { result ≡ cell_length shape }
-{
-    let used = 16 + 4 * usize::from(shape.children) + usize::from(shape.bytes);
-    used.next_multiple_of(4)
-}
 
 fn has_zeros(bytes: &[u8], start: usize, end: usize) -> bool
     requires { start ≤ end }
@@ -22,6 +16,7 @@ fn has_zeros(bytes: &[u8], start: usize, end: usize) -> bool
     end <= bytes.len() && bytes[start..end].iter().all(|byte| *byte == 0)
 }
 
+/// A hole stands at the front of the bytes.
 fn begins_with_hole(bytes: &[u8]) -> bool
     requires { 4 ≤ length bytes.now }
     ensures { IsTrue result ↔ BeginsWithHole bytes.now }
@@ -34,13 +29,13 @@ fn begins_with_hole(bytes: &[u8]) -> bool
         && has_zeros(bytes, 4, usize::from(len))
 }
 
+/// The bytes have the length of a cell of this shape, and its padding.
 fn has_shape(shape: Shape, bytes: &[u8]) -> bool
     requires { 4 ≤ length bytes.now }
     ensures { IsTrue result ↔ HasShape shape bytes.now }
 {
-    let used = 16 + 4 * usize::from(shape.children) + usize::from(shape.bytes);
     let end = length_of(shape);
-    usize::from(get16(bytes, 2)) == end && has_zeros(bytes, used, end)
+    usize::from(get16(bytes, 2)) == end && has_zeros(bytes, used_by(shape), end)
 }
 
 /// The shape of the cell at the front of the bytes.
@@ -126,6 +121,7 @@ impl Tile {
     }
 }
 
+/// One tile after the other, each behind the one before it.
 fn all_tiles(alloc: Global, shapes: &[Shape], block: &[u8]) -> Result<List<Tile>, BlockFault>
     requires { length block.now ≡ 4096 }
     ensures found { IfOk result (IsTiling shapes.now block.now) }

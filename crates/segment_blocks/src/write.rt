@@ -6,7 +6,7 @@ ghost use Rattle.segment_blocks.specs.declared.tile.Tile.{Tile};
 ghost use Rattle.segment_blocks.specs.Tiling.{cell_length, spelling, spelled_head, Fits, AreTiles, IsTiling, StandAround, Writes};
 
 use crate::Cell;
-use crate::parse::length_of;
+use crate::size::length_of;
 use hal_base::{Ilk, Shape, put16, put32};
 
 pub(crate) fn put(block: &mut [u8], at: usize, bytes: &[u8])
@@ -56,15 +56,7 @@ fn head_of(cell: &Cell, len: u16) -> [u8; 16]
     head
 }
 
-/// The length of a cell of this shape.
-pub fn cell_size(shape: Shape) -> u16
-    requires { shape.bytes ≤ 2016 }
-    ensures { result ≡ cell_length shape }
-{
-    length_of(shape) as u16
-}
-
-/// Writes the cell of a segment whose type has this shape.
+/// Writes the cell of a segment whose type has this shape, and no other byte.
 pub fn write_cell(shape: Shape, block: &mut [u8; 4096], at: u16, cell: &Cell)
     requires body { 16 ≤ at }
     requires room { at + cell_length shape ≤ 4096 }
@@ -77,6 +69,7 @@ pub fn write_cell(shape: Shape, block: &mut [u8; 4096], at: u16, cell: &Cell)
     // It joins the tiles that stand before it, whatever stood up to `end`.
     ensures joins { (end : ℕ) (before after : List Tile) → at + cell_length shape ≤ end → StandAround block.old at end before after →
         StandAround block.new (at + cell_length shape) end (before ++ Tile.Seg at cell.now ∷ []) after }
+    // Its numbers have the bytes that they are spelled in.
     ensures fits { Fits cell.now }
 {
     let at = usize::from(at);
@@ -89,7 +82,7 @@ pub fn write_cell(shape: Shape, block: &mut [u8; 4096], at: u16, cell: &Cell)
     put_zeros(block, padding_at, at + len - padding_at);
 }
 
-/// Writes a hole of this length, its head and zeros.
+/// Writes a hole of this length, its head and zeros, and no other byte.
 pub fn write_hole(block: &mut [u8; 4096], at: u16, len: u16)
     requires body { 16 ≤ at }
     requires room { at + len ≤ 4096 }
