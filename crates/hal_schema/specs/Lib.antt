@@ -1,4 +1,5 @@
 pub mod Entry
+pub mod First
 pub mod Forest
 pub mod Lawful
 pub mod Place
