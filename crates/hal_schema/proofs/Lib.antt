@@ -1,2 +1,3 @@
 pub mod Ancestry
 pub mod Kept
+pub mod Indexes

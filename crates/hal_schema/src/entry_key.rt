@@ -5,7 +5,7 @@ ghost use Rattle.hal_schema.specs.Entry.{entry_key};
 ghost use Rattle.hal_schema.specs.Lawful.{is_within};
 ghost use Rattle.hal_schema.specs.SegType.{path_key_bytes, portion, type_of};
 
-use crate::{Field, Schema};
+use crate::{Field, IndexDef, Schema};
 use hal_base::{Bytes, Key, Memory};
 use std::alloc::Global;
 
@@ -25,11 +25,19 @@ impl Schema {
         ensures { IfOk result (λ key. ForSome (slice_get self.now.indexes index) (λ i. key ≡ entry_key i content.now keys.now)) }
     {
         let def = &self.indexes.as_slice()[index as usize];
-        let mut key = Bytes::new(alloc);
-        append_portions(&mut key, def.search.as_slice(), content)?;
-        append_portions(&mut key, def.subseq.as_slice(), keys)?;
-        Ok(Some(key))
+        Ok(Some(key_by(alloc, def, content, keys)?))
     }
+}
+
+fn key_by(alloc: Global, index: &IndexDef, content: &[u8], keys: &[u8]) -> Result<Key, Memory>
+    requires search { IsTrue (list_all (λ f. is_within (length content.now) f.start f.bytes) index.now.search) }
+    requires subseq { IsTrue (list_all (λ f. is_within (length keys.now) f.start f.bytes) index.now.subseq) }
+    ensures { IfOk result (λ key. entry_key index.now content.now keys.now ≡ Some key) }
+{
+    let mut key = Bytes::new(alloc);
+    append_portions(&mut key, index.search.as_slice(), content)?;
+    append_portions(&mut key, index.subseq.as_slice(), keys)?;
+    Ok(key)
 }
 
 /// Appends the bytes of each field.
