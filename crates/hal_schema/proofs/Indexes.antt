@@ -1,8 +1,7 @@
 -- The fields of an index lie in what they are taken from.
-use Rattle.std.proofs.Common.{◌≡◌, ℕ, zero, suc, Bool, true, false, ◌&&◌, ◌||◌, not, cond, ◌==◌, nat_le, IsTrue, List, [], ◌∷◌, length, Option, Some, None, refl, ap, sym, subst, ◌∙◌, ◌⊎◌, inl, inr, arith}
+use Rattle.std.proofs.Common.{◌≡◌, ℕ, zero, suc, Bool, true, false, ◌&&◌, not, cond, nat_le, IsTrue, List, [], ◌∷◌, Option, Some, None, refl, ap, sym, subst, ◌∙◌, inl, inr}
 use Rattle.std.specs.List.{list_all, list_any, slice_get}
 use Rattle.std.specs.Option.{option_map_or, ForSome}
-use Rattle.std.specs.Str.{bytes_eq}
 use Rattle.std.proofs.lemmas.Slice.Eq.{bytes_eq-Decides}
 use Rattle.std.proofs.lemmas.Bool.{and_parts, and_from, or_cases, eqb-true, not-true}
 use Rattle.hal_schema.specs.declared.schema.Field.{Field}
@@ -37,7 +36,7 @@ among_fits : (n : ℕ) (f : Field) (fields : List Field) → not (is_key_portion
 among_fits n f [] free any all = cc
 among_fits n f (g ∷ fields) free any all =
     elim (or_cases _ _ any) [
-      inl same ↦ fits_like n f g free same (and_parts _ _ all).0
+      | inl same ↦ fits_like n f g free same (and_parts _ _ all).0
       | inr rest ↦ among_fits n f fields free rest (and_parts _ _ all).1
     ]
 
@@ -76,22 +75,22 @@ index_at : (types : List SegType) (indexes : List IndexDef) (k : ℕ) (i : Index
 index_at types indexes k i h e = all_at (index_is_kept types) indexes k i (and_parts _ _ h).0 e
 
 pub search_within : (types : List SegType) (indexes : List IndexDef) (k : ℕ) (i : IndexDef) (n : ℕ) → IsTrue (fields_fit types) → IsTrue (indexes_are_kept types indexes) → slice_get indexes k ≡ Some i → ForSome (type_of types i.source) (λ t. n ≡ t.bytes)
-  → list_all (λ f. is_within n f.start f.bytes) i.search ≡ true
+    → list_all (λ f. is_within n f.start f.bytes) i.search ≡ true
 search_within types indexes k i n fits kept at long =
     let one = index_at types indexes k i kept at in
     let t = source_known types i one in
     let parts = index_parts types i t.0 one t.1 in
     let fields = fields_of types i.source t.0 fits t.1 in
     subst (λ m. list_all (λ f. is_within m f.start f.bytes) i.search ≡ true) (sym (long t.0 t.1))
-      (all_weaker (λ f. not (is_key_portion f.name) && list_any (same_field f) t.0.fields) (λ f. is_within t.0.bytes f.start f.bytes)
-      (λ f h. among_fits t.0.bytes f t.0.fields (and_parts _ _ h).0 (and_parts _ _ h).1 fields) i.search parts.search)
+    (all_weaker (λ f. not (is_key_portion f.name) && list_any (same_field f) t.0.fields) (λ f. is_within t.0.bytes f.start f.bytes)
+    (λ f h. among_fits t.0.bytes f t.0.fields (and_parts _ _ h).0 (and_parts _ _ h).1 fields) i.search parts.search)
 
 pub subseq_within : (types : List SegType) (indexes : List IndexDef) (k : ℕ) (i : IndexDef) (n : ℕ) → IsTrue (indexes_are_kept types indexes) → slice_get indexes k ≡ Some i → n ≡ path_key_bytes types i.source
-  → list_all (λ f. is_within n f.start f.bytes) i.subseq ≡ true
+    → list_all (λ f. is_within n f.start f.bytes) i.subseq ≡ true
 subseq_within types indexes k i n kept at long =
     let one = index_at types indexes k i kept at in
     let t = source_known types i one in
     let parts = index_parts types i t.0 one t.1 in
     subst (λ m. list_all (λ f. is_within m f.start f.bytes) i.subseq ≡ true) (sym long)
-      (all_weaker (λ f. is_key_portion f.name && list_any (same_field f) t.0.fields && is_within (path_key_bytes types i.source) f.start f.bytes) (λ f. is_within (path_key_bytes types i.source) f.start f.bytes)
-      (λ f h. (and_parts _ _ h).1) i.subseq parts.subseq)
+    (all_weaker (λ f. is_key_portion f.name && list_any (same_field f) t.0.fields && is_within (path_key_bytes types i.source) f.start f.bytes) (λ f. is_within (path_key_bytes types i.source) f.start f.bytes)
+    (λ f h. (and_parts _ _ h).1) i.subseq parts.subseq)

@@ -1,13 +1,13 @@
 -- What the tests of a checked definition say, part by part.
-use Rattle.std.proofs.Common.{◌≡◌, ℕ, zero, suc, ◌+◌, ◌-◌, ◌<◌, ◌≤◌, true, nat_le, IsTrue, List, length, get_or, Some, None, ap, sym, ◌∙◌, subst, ◌⊎◌, inl, inr, arith}
+use Rattle.std.proofs.Common.{◌≡◌, ℕ, zero, suc, ◌+◌, ◌<◌, ◌≤◌, true, nat_le, IsTrue, List, length, get_or, Some, None, subst, ◌⊎◌, inl, inr, arith}
 use Rattle.std.proofs.lemmas.Option.{slice_get_cases}
 use Rattle.std.specs.List.{list_all, enumerate_from, slice_get}
 use Rattle.std.proofs.lemmas.Bool.{and_parts, leb-true}
 use Rattle.hal_schema.specs.declared.schema.SegType.{SegType}
 use Rattle.hal_schema.specs.declared.schema.IndexDef.{IndexDef}
 use Rattle.hal_schema.specs.declared.schema.PartDef.{PartDef}
-use Rattle.hal_schema.specs.SegType.{level_of, parent_of}
-use Rattle.hal_schema.specs.Lawful.{parents_are_before, counts_are_kept}
+use Rattle.hal_schema.specs.SegType.{level_of}
+use Rattle.hal_schema.specs.Lawful.{counts_are_kept}
 use Rattle.hal_schema.proofs.Ancestry.{all_places}
 
 pub record Counts (types : List SegType) (indexes : List IndexDef) (parts : List PartDef) : Type 0 where

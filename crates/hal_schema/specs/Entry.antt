@@ -1,5 +1,5 @@
 -- The entries of a secondary index, computed from all rows each time. DBD: XDFLD with SRCH and SUBSEQ.
-use Rattle.std.specs.Prelude.{ℕ, ◌==◌, List, [], ◌∷◌, ◌++◌, Option, Some, None, option_and_then, filter, filter_map, find, flat_map, if◌then◌else◌}
+use Rattle.std.specs.Prelude.{ℕ, ◌==◌, List, [], ◌∷◌, ◌++◌, Option, Some, option_and_then, filter, filter_map, find, flat_map, if◌then◌else◌}
 use Rattle.std.specs.List.{slice_get}
 use Rattle.std.specs.Ordering.{is_le}
 use Rattle.hal_base.specs.declared.place.Ilk.{Ilk}

@@ -1,5 +1,5 @@
 -- Segment types by their codes. A code is a type's place from 1 in the definition. DBD: SEGM.
-use Rattle.std.specs.Prelude.{ℕ, zero, suc, ◌+◌, ◌-◌, ◌==◌, Bool, false, List, [], ◌∷◌, length, Option, Some, None, option_and_then, slice_range, sum_by}
+use Rattle.std.specs.Prelude.{ℕ, zero, suc, ◌+◌, ◌-◌, ◌==◌, Bool, false, List, [], ◌∷◌, length, Option, None, option_and_then, slice_range, sum_by}
 use Rattle.std.specs.List.{slice_get}
 use Rattle.std.specs.Option.{option_map_or}
 use Rattle.hal_schema.specs.declared.schema.SegType.{SegType}

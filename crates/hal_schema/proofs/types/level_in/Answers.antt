@@ -1,6 +1,5 @@
-use Rattle.std.proofs.Common.{◌≡◌, ◌<◌, sym, ◌∙◌, arith}
+use Rattle.std.proofs.Common.{sym, ◌∙◌, arith}
 use Rattle.hal_schema.proofs.Ancestry.{types_lower, level-child, level-root}
-use Rattle.hal_schema.specs.SegType.{parent_of}
 use Rattle.hal_schema.proofs.types.level_in.Goals as goal
 
 pub loop-parent-smaller : goal.loop-parent-smaller

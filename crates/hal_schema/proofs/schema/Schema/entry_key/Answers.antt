@@ -10,7 +10,7 @@ key_by-requires c =
     let s = c.args.self.now in
     let def = c.index-as_slice-index.result in
     let at : slice_get s.indexes c.args.index ≡ Some def =
-        slice_get_read s.indexes (length s.indexes) c.args.index def refl c.requires.known (c.index-as_slice-index.is ∙ ap (λ l. get_or l c.args.index def) c.as_slice.ensures) in
+    slice_get_read s.indexes (length s.indexes) c.args.index def refl c.requires.known (c.index-as_slice-index.is ∙ ap (λ l. get_or l c.args.index def) c.as_slice.ensures) in
     record {
       search = search_within s.types s.indexes c.args.index def _ s.fields s.kept_indexes at (c.requires.content_long def at);
       subseq = subseq_within s.types s.indexes c.args.index def _ s.kept_indexes at (c.requires.keys_long def at);
@@ -21,5 +21,5 @@ returns c = λ i e.
     let s = c.args.self.now in
     let def = c.index-as_slice-index.result in
     let at : slice_get s.indexes c.args.index ≡ Some def =
-        slice_get_read s.indexes (length s.indexes) c.args.index def refl c.requires.known (c.index-as_slice-index.is ∙ ap (λ l. get_or l c.args.index def) c.as_slice.ensures) in
+    slice_get_read s.indexes (length s.indexes) c.args.index def refl c.requires.known (c.index-as_slice-index.is ∙ ap (λ l. get_or l c.args.index def) c.as_slice.ensures) in
     sym (ap (λ i. entry_key i c.args.content.now c.args.keys.now) (same_Some i def (sym e ∙ at)) ∙ c.in_ok-key_by.ensures)

@@ -1,5 +1,3 @@
-use Rattle.std.proofs.Common.{◌≡◌, ◌≤◌, ◌-◌, sym, subst, ap, arith}
-use Rattle.hal_schema.specs.SegType.{level_of}
 use Rattle.hal_schema.proofs.Kept.{counts_from, level_within}
 use Rattle.hal_schema.proofs.schema.Schema.level.Goals as goal
 
