@@ -1,5 +1,5 @@
 // A list that owns its memory. Contracts see it as the list of its items.
-ghost use Rattle.std.specs.Prelude.{◌≡◌, ◌<◌, ◌≤◌, ◌↔◌, [], ◌∷◌, ◌++◌, length, IfNone, IfSome, OnOk, OnErr, IsTrue};
+ghost use Rattle.std.specs.Prelude.{◌≡◌, ◌<◌, ◌≤◌, ◌↔◌, [], ◌∷◌, ◌++◌, length, IfNone, IfSome, IfOk, OnOk, OnErr, IsTrue};
 
 use crate::Memory;
 use std::alloc::Global;
@@ -56,5 +56,16 @@ impl<T: Drop> List<T> {
     {
         self.items.push(item)?;
         Ok(())
+    }
+}
+
+impl<T: Copy + Drop> List<T> {
+    /// A list of these items.
+    pub fn from_slice(alloc: Global, items: &[T]) -> Result<List<T>, Memory>
+        ensures { IfOk result (λ list. list ≡ items.now) }
+    {
+        Ok(List {
+            items: Vec::from_slice(alloc, items)?,
+        })
     }
 }

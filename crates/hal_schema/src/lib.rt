@@ -1,6 +1,7 @@
 //! What a database definition says once it is checked, and the rows that it orders.
 #![tactic(auto)]
 
+mod copy;
 mod entry_key;
 mod first;
 mod row;
