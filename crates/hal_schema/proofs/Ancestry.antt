@@ -89,3 +89,15 @@ parent_of-read types (suc k) t z l e =
     let e' : t ≡ get_or types k t = e ∙ ap (λ j. get_or types j t) m in
     let g : slice_get types k ≡ Some t = slice_get_read types (length types) k t refl (omega arith) e' in
     ap (option_and_then (λ u. u.parent)) g
+
+-- no more codes than the first says
+short : (n : ℕ) (parent : ℕ → Option ℕ) (c : ℕ) → length (ancestry_within n parent c) ≤ n
+short zero parent c = omega arith
+short (suc n) parent c = above n parent (parent c) (short n parent)
+  where
+    above : (n : ℕ) (parent : ℕ → Option ℕ) (o : Option ℕ) → ((p : ℕ) → length (ancestry_within n parent p) ≤ n) → suc (length (option_map_or (ancestry_within n parent) o [])) ≤ suc n
+    above n parent None h = omega arith
+    above n parent (Some p) h = let s = h p in omega arith
+
+pub level-short : (types : List SegType) (c : ℕ) → level_of types c ≤ c
+level-short types c = short c (parent_of types) c

@@ -8,7 +8,7 @@ use Rattle.hal_schema.specs.declared.schema.IndexDef.{IndexDef}
 use Rattle.hal_schema.specs.declared.schema.SegType.{SegType}
 use Rattle.hal_schema.specs.SegType.{portion}
 use Rattle.hal_schema.specs.Row.{path_of, key_of, concatenated_key}
-use Rattle.hal_schema.specs.Roots.{key_cmp}
+use Rattle.hal_schema.specs.Keys.{key_cmp}
 
 -- an entry's key, the name of its target, and the key of the root above
 pub record Entry : Type 0 where

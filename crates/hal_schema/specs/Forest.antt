@@ -10,7 +10,8 @@ use Rattle.hal_schema.specs.declared.schema.Schema.{Schema}
 use Rattle.hal_schema.specs.declared.schema.SegType.{SegType}
 use Rattle.hal_schema.specs.SegType.{type_of, parent_of, level_of}
 use Rattle.hal_schema.specs.Row.{key_of}
-use Rattle.hal_schema.specs.Roots.{key_cmp, root_cmp, partition_of}
+use Rattle.hal_schema.specs.Roots.{root_cmp, partition_of}
+use Rattle.hal_schema.specs.Keys.{key_cmp}
 use Rattle.hal_schema.specs.Entry.{entries_of}
 
 -- the content has the length of the row's type

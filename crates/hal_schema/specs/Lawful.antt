@@ -2,8 +2,8 @@
 use Rattle.std.specs.Prelude.{ℕ, ◌+◌, ◌==◌, nat_lt, nat_le, Bool, true, false, ◌&&◌, ◌||◌, not, List, [], ◌∷◌, ◌++◌, length, Option, None, Some, map, filter, sum_by, option_and_then, if◌then◌else◌}
 use Rattle.std.specs.List.{list_all, list_any, slice_get, enumerate_from}
 use Rattle.std.specs.Option.{option_map_or}
-use Rattle.std.specs.Ordering.{nat_cmp, is_lt}
-use Rattle.std.specs.Cmp.Lexicographic.{slice_cmp}
+use Rattle.std.specs.Ordering.{is_lt}
+use Rattle.hal_schema.specs.Keys.{key_cmp}
 use Rattle.std.specs.Str.{bytes_eq}
 use Rattle.hal_schema.specs.declared.schema.Field.{Field}
 use Rattle.hal_schema.specs.declared.schema.SegType.{SegType}
@@ -87,7 +87,7 @@ indexes_are_kept types indexes = list_all (index_is_kept types) indexes && all_r
 -- high keys have the length of the root key, and rise
 abbrev pub highs_rise : List SegType → List PartDef → Bool
 highs_rise types parts =
-    list_all (λ p. length p.high == key_bytes types 1) parts && all_rise (λ p q. is_lt (slice_cmp nat_cmp p.high q.high)) parts
+    list_all (λ p. length p.high == key_bytes types 1) parts && all_rise (λ p q. is_lt (key_cmp p.high q.high)) parts
 
 abbrev pub part_is_kept : Bool → PartDef → Bool
 part_is_kept phdam p =

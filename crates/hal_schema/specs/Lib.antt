@@ -1,9 +1,14 @@
 pub mod Entry
+pub mod Faults
 pub mod First
 pub mod Forest
+pub mod Insertion
+pub mod Keys
 pub mod Lawful
-pub mod Place
+pub mod Places
+pub mod Raw
 pub mod Roots
 pub mod Row
+pub mod Rules
 pub mod SegType
 pub mod Span

@@ -4,12 +4,8 @@ use Rattle.std.specs.List.{slice_get}
 use Rattle.std.specs.Option.{option_map_or}
 use Rattle.std.specs.declared.cmp.Ordering.{Ordering}
 use Rattle.std.specs.Ordering.{nat_cmp, is_le, on, then_cmp}
-use Rattle.std.specs.Cmp.Lexicographic.{slice_cmp}
 use Rattle.hal_schema.specs.declared.schema.Schema.{Schema}
-
--- keys are compared byte by byte
-abbrev pub key_cmp : List ℕ → List ℕ → Ordering
-key_cmp = slice_cmp nat_cmp
+use Rattle.hal_schema.specs.Keys.{key_cmp}
 
 -- the place of the partition with the least high key that isn't below the key; none where the key is above every high key
 abbrev pub partition_of : Schema → List ℕ → Option ℕ

@@ -3,11 +3,16 @@
 
 mod copy;
 mod entry_key;
+mod fault;
 mod first;
+mod raw;
 mod row;
+mod rules;
 mod schema;
 mod types;
 
+pub use fault::{Place, SchemaFault};
 pub use first::first_schema;
+pub use raw::{RawDbd, RawField, RawIndex, RawPart, RawParts, RawSchema, RawType};
 pub use row::Row;
 pub use schema::{Field, IndexDef, KeyField, PartDef, Schema, SegType};

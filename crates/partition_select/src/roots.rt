@@ -2,7 +2,8 @@ ghost use Rattle.std.specs.Prelude.{◌≡◌, ◌<◌, ℕ, List};
 ghost use Rattle.std.specs.Cmp.{IsTotalOrder};
 ghost use Rattle.std.specs.Ordering.{is_le};
 ghost use Rattle.std.specs.declared.cmp.Ordering.TheVariants.{Equal};
-ghost use Rattle.hal_schema.specs.Roots.{key_cmp, partition_of, partition_place, anchor_of, anchor_place, root_cmp};
+ghost use Rattle.hal_schema.specs.Keys.{key_cmp};
+ghost use Rattle.hal_schema.specs.Roots.{partition_of, partition_place, anchor_of, anchor_place, root_cmp};
 
 use hal_schema::{PartDef, Schema};
 use std::cmp::Ordering;

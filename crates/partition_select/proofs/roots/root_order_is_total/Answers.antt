@@ -4,7 +4,8 @@ use Rattle.std.specs.declared.cmp.Ordering.TheVariants.{Less, Equal, Greater}
 use Rattle.std.specs.Ordering.{ordering_then, nat_cmp}
 use Rattle.std.specs.FinMap.{slice_cmp-IsAntisymmetric, nat_cmp-IsAntisymmetric}
 use Rattle.std.proofs.lemmas.Cmp.{then_total, on_total, nat_cmp_total, nat_list_cmp_total}
-use Rattle.hal_schema.specs.Roots.{partition_place, anchor_place, key_cmp}
+use Rattle.hal_schema.specs.Roots.{partition_place, anchor_place}
+use Rattle.hal_schema.specs.Keys.{key_cmp}
 use Rattle.partition_select.proofs.roots.root_order_is_total.Goals as goal
 
 pub returns-clause-total : goal.returns-clause-total

@@ -1,0 +1,11 @@
+// What breaks the rules of a definition. Each function adds the places at which one rule, or a part of it, is
+// broken.
+mod counts;
+mod names;
+mod parents;
+mod types;
+
+pub(crate) use counts::counts_passed;
+pub(crate) use names::names_repeated;
+pub(crate) use parents::{misplaced_roots, unknown_parents};
+pub(crate) use types::{letters_unknown, root_key_broken, sequence_broken, sizes_broken};
