@@ -1,5 +1,5 @@
 // A list that owns its memory. Contracts see it as the list of its items.
-ghost use Rattle.std.specs.Prelude.{◌≡◌, ◌<◌, ◌≤◌, ◌↔◌, [], ◌∷◌, ◌++◌, length, IfNone, IfSome, IfOk, OnOk, OnErr, IsTrue};
+ghost use Rattle.std.specs.Prelude.{◌≡◌, ◌<◌, ◌≤◌, ◌↔◌, [], ◌∷◌, ◌++◌, length, insert, IfNone, IfSome, IfOk, OnOk, OnErr, IsTrue};
 
 use crate::Memory;
 use std::alloc::Global;
@@ -55,6 +55,18 @@ impl<T: Drop> List<T> {
         ensures err { OnErr result (self.new ≡ self.old) }
     {
         self.items.push(item)?;
+        Ok(())
+    }
+}
+
+impl<T: Drop> List<T> {
+    /// Puts an item at a place, before the items that stood there and behind. One that finds no room is dropped.
+    pub fn insert(&mut self, at: usize, item: T) -> Result<(), Memory>
+        requires { at ≤ length self.old }
+        ensures ok { OnOk result (self.new ≡ insert self.old at item) }
+        ensures err { OnErr result (self.new ≡ self.old) }
+    {
+        self.items.insert(at, item)?;
         Ok(())
     }
 }

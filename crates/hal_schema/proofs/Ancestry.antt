@@ -1,13 +1,15 @@
 -- The codes from a type's up to the root type's.
-use Rattle.std.proofs.Common.{◌≡◌, ℕ, zero, suc, ◌+◌, ◌<◌, ◌≤◌, Bool, true, nat_lt, IsTrue, List, [], ◌∷◌, length, Option, Some, None, refl, sym, ap, ◌∙◌, arith, get_or, ◌-◌}
-use Rattle.std.proofs.lemmas.Option.{slice_get_read}
-use Rattle.std.specs.List.{slice_get, list_all, enumerate_from}
+use Rattle.std.proofs.Common.{◌||◌, ◌==◌, false, ◌≡◌, ℕ, zero, suc, ◌+◌, ◌<◌, ◌≤◌, Bool, true, nat_lt, IsTrue, List, [], ◌∷◌, length, Option, Some, None, refl, sym, ap, ◌∙◌, arith, get_or, ◌-◌}
+use Rattle.std.proofs.lemmas.Option.{slice_get_read, slice_get-get_or}
+use Rattle.std.proofs.lemmas.List.Sums.{sum_by-append}
+use Rattle.std.specs.List.{slice_get, list_all, list_any, enumerate_from}
 use Rattle.std.specs.Option.{option_map_or}
 use Rattle.std.proofs.lemmas.Bool.{and_parts}
 use Rattle.std.proofs.lemmas.Bool.Decides.{nat_tests}
 use Rattle.std.specs.Prelude.{option_and_then}
+use Rattle.std.specs.Prelude.{sum_by}
 use Rattle.hal_schema.specs.declared.schema.SegType.{SegType}
-use Rattle.hal_schema.specs.SegType.{parent_of, ancestry_within, ancestry, level_of}
+use Rattle.hal_schema.specs.SegType.{type_of, key_bytes, path_key_bytes, parent_of, ancestry_within, ancestry, level_of}
 use Rattle.hal_schema.specs.Lawful.{parent_is_before, parents_are_before}
 
 -- a test of each place and item holds at each place
@@ -101,3 +103,44 @@ short (suc n) parent c = above n parent (parent c) (short n parent)
 
 pub level-short : (types : List SegType) (c : ℕ) → level_of types c ≤ c
 level-short types c = short c (parent_of types) c
+
+-- the keys above a type's own
+abbrev pub path_above : List SegType → ℕ → ℕ
+path_above types code = option_map_or (path_key_bytes types) (parent_of types code) 0
+
+sum_first : {X : Type 0} (f : X → ℕ) (x : X) (xs : List X) → sum_by f (x ∷ xs) ≡ f x + sum_by f xs
+sum_first f x xs = sum_by-append f (x ∷ []) xs ∙ (let e : sum_by f (x ∷ []) + sum_by f xs ≡ f x + sum_by f xs = omega arith in e)
+
+pub path-child : (types : List SegType) → IsTrue (parents_are_before types) → (c p : ℕ) → 0 < c → parent_of types c ≡ Some p → path_key_bytes types c ≡ key_bytes types c + path_key_bytes types p
+path-child types h c p z e = ap (sum_by (key_bytes types)) (ancestry-child (parent_of types) (types_lower types h) c p z e) ∙ sum_first (key_bytes types) c (ancestry (parent_of types) p)
+
+pub path-root : (types : List SegType) → (c : ℕ) → 0 < c → parent_of types c ≡ None → path_key_bytes types c ≡ key_bytes types c + 0
+path-root types c z e = ap (sum_by (key_bytes types)) (ancestry-root (parent_of types) c z e) ∙ sum_first (key_bytes types) c []
+
+pub above-child : (types : List SegType) (c p : ℕ) → parent_of types c ≡ Some p → path_above types c ≡ path_key_bytes types p
+above-child types c p e = ap (λ o. option_map_or (path_key_bytes types) o 0) e
+
+pub path-above : (types : List SegType) → IsTrue (parents_are_before types) → (c : ℕ) → 0 < c → key_bytes types c + path_above types c ≡ path_key_bytes types c
+path-above types h c z = by (parent_of types c) (λ e. sym (path-root types c z e)) (λ p e. sym (path-child types h c p z e))
+  where
+    by : (o : Option ℕ) → (o ≡ None → key_bytes types c + 0 ≡ path_key_bytes types c) → ((p : ℕ) → o ≡ Some p → key_bytes types c + path_key_bytes types p ≡ path_key_bytes types c) → key_bytes types c + option_map_or (path_key_bytes types) o 0 ≡ path_key_bytes types c
+    by None root child = root refl
+    by (Some p) root child = child p refl
+
+-- the type at a code
+pub type_of-at : (types : List SegType) (c : ℕ) (d : SegType) → 0 < c → c ≤ length types → type_of types c ≡ Some (get_or types (c - 1) d)
+type_of-at types zero d z l = absurd (omega arith)
+type_of-at types (suc k) d z l = let m : k ≡ suc k - 1 = omega arith in slice_get-get_or types k d (omega arith) ∙ ap (λ j. Some (get_or types j d)) m
+
+pub key_bytes-at : (types : List SegType) (c : ℕ) (d : SegType) → 0 < c → c ≤ length types → key_bytes types c ≡ option_map_or (λ k. k.bytes) (get_or types (c - 1) d).key 0
+key_bytes-at types c d z l = ap (λ o. option_map_or (λ k. k.bytes) (option_and_then (λ t. t.key) o) 0) (type_of-at types c d z l)
+
+-- one step up, where the code isn't the one that is looked for
+pub above_like : (types : List SegType) → IsTrue (parents_are_before types) → (c p target : ℕ) → 0 < c → parent_of types c ≡ Some p → (c == target) ≡ false
+  → list_any (λ code. code == target) (ancestry (parent_of types) p) ≡ list_any (λ code. code == target) (ancestry (parent_of types) c)
+above_like types h c p target z e other =
+    sym (ap (list_any (λ code. code == target)) (ancestry-child (parent_of types) (types_lower types h) c p z e) ∙ ap (λ b. b || list_any (λ code. code == target) (ancestry (parent_of types) p)) other)
+
+pub root_unlike : (types : List SegType) → (c target : ℕ) → 0 < c → parent_of types c ≡ None → (c == target) ≡ false → list_any (λ code. code == target) (ancestry (parent_of types) c) ≡ false
+root_unlike types c target z e other =
+    ap (list_any (λ code. code == target)) (ancestry-root (parent_of types) c z e) ∙ ap (λ b. b || false) other

@@ -8,7 +8,7 @@ use Rattle.hal_schema.specs.declared.schema.Field.{Field}
 use Rattle.hal_schema.specs.declared.schema.SegType.{SegType}
 use Rattle.hal_schema.specs.declared.schema.IndexDef.{IndexDef}
 use Rattle.hal_schema.specs.SegType.{type_of, path_key_bytes}
-use Rattle.hal_schema.specs.Lawful.{is_key_portion, is_within, field_fits, fields_fit, same_field, index_is_kept, indexes_are_kept}
+use Rattle.hal_schema.specs.Lawful.{is_key_portion, is_within, field_fits, fields_fit, same_field, fields_are_kept, index_is_kept, indexes_are_kept}
 
 -- what holds of each holds of the one at a place
 pub all_at : {X : Type 0} (p : X → Bool) (xs : List X) (k : ℕ) (x : X) → list_all p xs ≡ true → slice_get xs k ≡ Some x → p x ≡ true
@@ -94,3 +94,11 @@ subseq_within types indexes k i n kept at long =
     subst (λ m. list_all (λ f. is_within m f.start f.bytes) i.subseq ≡ true) (sym long)
     (all_weaker (λ f. is_key_portion f.name && list_any (same_field f) t.0.fields && is_within (path_key_bytes types i.source) f.start f.bytes) (λ f. is_within (path_key_bytes types i.source) f.start f.bytes)
     (λ f h. (and_parts _ _ h).1) i.subseq parts.subseq)
+
+-- the fields of an index, against those that were read
+pub kept_at : (types : List SegType) (i : IndexDef) (fields : List Field) (path : ℕ) (r : Bool) (t : SegType) → type_of types i.source ≡ Some t → fields ≡ t.fields → path ≡ path_key_bytes types i.source
+  → r ≡ (list_all (λ f. not (is_key_portion f.name) && list_any (same_field f) fields) i.search && list_all (λ f. is_key_portion f.name && list_any (same_field f) fields && is_within path f.start f.bytes) i.subseq)
+  → r ≡ option_map_or (fields_are_kept types i) (type_of types i.source) false
+kept_at types i fields path r t e ef ep h =
+    let tests = λ (fs : List Field) (p : ℕ). list_all (λ f. not (is_key_portion f.name) && list_any (same_field f) fs) i.search && list_all (λ f. is_key_portion f.name && list_any (same_field f) fs && is_within p f.start f.bytes) i.subseq in
+    h ∙ ap (λ fs. tests fs path) ef ∙ ap (tests t.fields) ep ∙ sym (ap (λ o. option_map_or (fields_are_kept types i) o false) e)

@@ -4,3 +4,4 @@ pub mod Indexes
 pub mod Least
 pub mod Numbered
 pub mod RawTypes
+pub mod Named

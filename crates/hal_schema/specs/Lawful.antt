@@ -73,13 +73,17 @@ letters_are_known types = list_all (λ t. nat_le 65 t.letter && nat_le t.letter 
 abbrev pub same_field : Field → Field → Bool
 same_field a b = bytes_eq a.name b.name && a.start == b.start && a.bytes == b.bytes
 
--- the source is the target or below it; the search fields are its fields, and the SUBSEQ portions lie in its concatenated key
+-- the search fields are fields of the source, and the SUBSEQ portions lie in its concatenated key
+abbrev pub fields_are_kept : List SegType → IndexDef → SegType → Bool
+fields_are_kept types i t =
+    list_all (λ f. not (is_key_portion f.name) && list_any (same_field f) t.fields) i.search
+    && list_all (λ f. is_key_portion f.name && list_any (same_field f) t.fields && is_within (path_key_bytes types i.source) f.start f.bytes) i.subseq
+
+-- the source is the target or below it
 abbrev pub index_is_kept : List SegType → IndexDef → Bool
 index_is_kept types i =
     list_any (λ code. code == i.target) (ancestry (parent_of types) i.source) && nat_le 1 (length i.search) && nat_le (length i.search) 5
-    && option_map_or (λ t. list_all (λ f. not (is_key_portion f.name) && list_any (same_field f) t.fields) i.search
-    && list_all (λ f. is_key_portion f.name && list_any (same_field f) t.fields && is_within (path_key_bytes types i.source) f.start f.bytes) i.subseq) (type_of types i.source) false
-    && nat_le (sum_by (λ f. f.bytes) i.search + sum_by (λ f. f.bytes) i.subseq) 240
+    && option_map_or (fields_are_kept types i) (type_of types i.source) false && nat_le (sum_by (λ f. f.bytes) i.search + sum_by (λ f. f.bytes) i.subseq) 240
 
 abbrev pub indexes_are_kept : List SegType → List IndexDef → Bool
 indexes_are_kept types indexes = list_all (index_is_kept types) indexes && all_rise (λ i j. nat_le i.target j.target) indexes

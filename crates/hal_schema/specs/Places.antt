@@ -1,5 +1,5 @@
 -- Where the rules of a definition are broken, and the order of these places: the statements by their lines, then `blocks`, then the partitions in the order of the file.
-use Rattle.std.specs.Prelude.{ℕ, Bool, true, false, ◌&&◌, ◌||◌, nat_le, nat_lt, List, [], ◌∷◌, ◌++◌, Option, None, Some, fold, flat_map, count_by, if◌then◌else◌}
+use Rattle.std.specs.Prelude.{ℕ, Bool, true, false, ◌&&◌, ◌||◌, nat_le, nat_lt, List, [], ◌∷◌, ◌++◌, Option, None, Some, drop, fold, flat_map, if◌then◌else◌}
 use Rattle.hal_schema.specs.declared.fault.Place.{Place}
 
 abbrev pub statement : ℕ → Place
@@ -35,6 +35,6 @@ abbrev pub twice : {X : Type 0} → (X → X → Bool) → (X → Place) → Lis
 twice same at [] = []
 twice same at (x ∷ xs) = flat_map (λ y. when (same x y) (later (at x) (at y))) xs ++ twice same at xs
 
--- those that pass a count
-abbrev pub passing : ℕ → List Place → List Place
-passing most places = flat_map (λ p. when (nat_lt most (count_by (λ q. at_or_before q p) places)) p) places
+-- those behind the first so many
+unfoldable pub passing : ℕ → List Place → List Place
+passing most places = drop most places

@@ -65,13 +65,17 @@ names_repeated raw =
     ++ twice same_number (λ p. partition p.place) raw.parts.parts ++ flat_map (λ t. names_twice (field_names raw.dbd.indexes t)) raw.dbd.types
 
 -- 4: more than 255 types, 15 levels, 255 fields in a segment or 16 indexes, or not 1 to 100 partitions
+abbrev pub statement_counts_passed : RawDbd → List Place
+statement_counts_passed dbd =
+    passing 255 (map (λ t. statement t.line) dbd.types)
+    ++ flat_map (λ t. when (nat_lt 15 (level_of (types_of dbd.types) t.0)) (statement t.1.line)) (enumerate_from 1 dbd.types)
+    ++ flat_map (λ t. passing 255 (map (λ f. statement f.line) t.fields)) dbd.types ++ passing 16 (map (λ i. statement i.line) dbd.indexes)
+
+abbrev pub part_counts_passed : List RawPart → List Place
+part_counts_passed parts = when (length parts == 0) (partition 0) ++ passing 100 (map (λ p. partition p.place) parts)
+
 abbrev pub counts_passed : RawSchema → List Place
-counts_passed raw =
-    passing 255 (map (λ t. statement t.line) raw.dbd.types)
-    ++ flat_map (λ t. when (nat_lt 15 (level_of (types_of raw.dbd.types) t.0)) (statement t.1.line)) (enumerate_from 1 raw.dbd.types)
-    ++ flat_map (λ t. passing 255 (map (λ f. statement f.line) t.fields)) raw.dbd.types
-    ++ passing 16 (map (λ i. statement i.line) raw.dbd.indexes)
-    ++ when (length raw.parts.parts == 0) (partition 0) ++ passing 100 (map (λ p. partition p.place) raw.parts.parts)
+counts_passed raw = statement_counts_passed raw.dbd ++ part_counts_passed raw.parts.parts
 
 -- 5: BYTES isn't 1 to 2,000, or a field has no bytes or leaves its segment, or a number of a /CK field is above 65,535
 abbrev pub sizes_in : RawType → List Place
@@ -106,9 +110,12 @@ indexes_broken types indexes = flat_map (λ i. when (not (option_map_or (index_i
 abbrev pub same_high : RawPart → RawPart → Bool
 same_high p q = bytes_eq p.high q.high
 
+abbrev pub high_is_long : ℕ → RawPart → Bool
+high_is_long bytes p = length p.high == bytes
+
 abbrev pub highs_broken : List SegType → List RawPart → List Place
 highs_broken types parts =
-    flat_map (λ p. when (not (length p.high == key_bytes types 1)) (partition p.place)) parts ++ twice same_high (λ p. partition p.place) parts
+    flat_map (λ p. when (not (high_is_long (key_bytes types 1) p)) (partition p.place)) parts ++ twice same_high (λ p. partition p.place) parts
 
 -- 11: PHDAM anchors aren't 1 to 1,000,000, fbff isn't 0 or 2 to 100, or fspf isn't 0 to 99
 abbrev pub factors_fit : Bool → PartDef → Bool
@@ -119,9 +126,12 @@ abbrev pub factors_broken : RawDbd → List RawPart → List Place
 factors_broken dbd parts = flat_map (λ p. when (not (factors_fit dbd.phdam (part_of dbd p))) (partition p.place)) parts
 
 -- 12: blocks aren't 1 to 65,536, or a partition number isn't 1 to 32,767
+abbrev pub number_fits : RawPart → Bool
+number_fits p = nat_le 1 p.number && nat_le p.number 32767
+
 abbrev pub numbers_broken : RawParts → List Place
 numbers_broken parts = when (not (blocks_are_kept parts.blocks)) (partition 0)
-    ++ flat_map (λ p. when (not (nat_le 1 p.number && nat_le p.number 32767)) (partition p.place)) parts.parts
+    ++ flat_map (λ p. when (not (number_fits p)) (partition p.place)) parts.parts
 
 -- by rule, from rule 1 on: the places at which the rule is broken
 abbrev pub broken : RawSchema → List (List Place)

@@ -46,7 +46,8 @@ fn level_in(types: &[SegType], code: u8) -> u8
     level
 }
 
-fn parent_code(types: &[SegType], code: u8) -> Option<u8>
+/// The code of a type's parent.
+pub(crate) fn parent_code(types: &[SegType], code: u8) -> Option<u8>
     requires above { 0 < code }
     requires known { code ≤ length types.now }
     ensures { result ≡ parent_of types.now code }

@@ -1,14 +1,14 @@
-ghost use Rattle.std.specs.Prelude.{◌≡◌, ◌++◌, nat_lt, IfOk, IsTrue, OnOk, count_by, flat_map, map};
+ghost use Rattle.std.specs.Prelude.{◌≡◌, ◌++◌, nat_lt, IfOk, IsTrue, OnOk, flat_map, map};
 ghost use Rattle.std.specs.List.{enumerate_from};
 ghost use Rattle.hal_schema.specs.Lawful.{parents_are_before};
-ghost use Rattle.hal_schema.specs.Places.{at_or_before, partition, passing, statement, when};
+ghost use Rattle.hal_schema.specs.Places.{partition, passing, statement, when};
 ghost use Rattle.hal_schema.specs.Raw.{types_of};
-ghost use Rattle.hal_schema.specs.Rules.{counts_passed};
+ghost use Rattle.hal_schema.specs.Rules.{counts_passed, part_counts_passed, statement_counts_passed};
 ghost use Rattle.hal_schema.specs.SegType.{level_of};
 
-use crate::fault::{is_at_or_before, note, partition, statement};
+use crate::fault::{note, partition, statement};
 use crate::rules::parents::level_in;
-use crate::{Place, RawField, RawIndex, RawPart, RawSchema, RawType};
+use crate::{Place, RawDbd, RawField, RawIndex, RawPart, RawSchema, RawType};
 use hal_base::{List, Memory};
 use std::alloc::Global;
 
@@ -17,12 +17,23 @@ pub(crate) fn counts_passed(alloc: Global, places: &mut List<Place>, raw: &RawSc
     requires { IsTrue (parents_are_before (types_of raw.now.dbd.types)) }
     ensures { OnOk result (places.new ≡ places.old ++ counts_passed raw.now) }
 {
-    let types = raw.dbd.types.as_slice();
-    let parts = raw.parts.parts.as_slice();
-    passing(places, 255, type_places(alloc, types)?.as_slice())?;
-    levels_passed(places, types)?;
-    fields_passed(alloc, places, types)?;
-    passing(places, 16, index_places(alloc, raw.dbd.indexes.as_slice())?.as_slice())?;
+    statement_counts_passed(alloc, places, &raw.dbd)?;
+    part_counts_passed(alloc, places, raw.parts.parts.as_slice())
+}
+
+fn statement_counts_passed(alloc: Global, places: &mut List<Place>, dbd: &RawDbd) -> Result<(), Memory>
+    requires { IsTrue (parents_are_before (types_of dbd.now.types)) }
+    ensures { OnOk result (places.new ≡ places.old ++ statement_counts_passed dbd.now) }
+{
+    passing(places, 255, type_places(alloc, dbd.types.as_slice())?.as_slice())?;
+    levels_passed(places, dbd.types.as_slice())?;
+    fields_passed(alloc, places, dbd.types.as_slice())?;
+    passing(places, 16, index_places(alloc, dbd.indexes.as_slice())?.as_slice())
+}
+
+fn part_counts_passed(alloc: Global, places: &mut List<Place>, parts: &[RawPart]) -> Result<(), Memory>
+    ensures { OnOk result (places.new ≡ places.old ++ part_counts_passed parts.now) }
+{
     note(places, parts.is_empty(), partition(0))?;
     passing(places, 100, part_places(alloc, parts)?.as_slice())
 }
@@ -86,25 +97,16 @@ fn part_places(alloc: Global, parts: &[RawPart]) -> Result<List<Place>, Memory>
     Ok(places)
 }
 
-/// Those that pass a count.
+/// Those behind the first so many.
+#[tactic(auto, unfolding(crate::specs::Places::passing))]
 fn passing(places: &mut List<Place>, most: usize, all: &[Place]) -> Result<(), Memory>
     ensures { OnOk result (places.new ≡ places.old ++ passing most all.now) }
 {
-    for p in all {
-        note(places, count_to(all, *p) > most, *p)?;
+    if all.len() <= most {
+        return Ok(());
+    }
+    for p in &all[most..] {
+        places.push(*p)?;
     }
     Ok(())
-}
-
-/// How many places there are up to one.
-fn count_to(all: &[Place], p: Place) -> usize
-    ensures { result ≡ count_by (λ q. at_or_before q p) all.now }
-{
-    let mut count = 0;
-    for q in all {
-        if is_at_or_before(*q, p) {
-            count += 1;
-        }
-    }
-    count
 }
