@@ -5,3 +5,6 @@ pub mod Least
 pub mod Numbered
 pub mod RawTypes
 pub mod Named
+pub mod Judged
+pub mod KeptTypes
+pub mod Ordered

@@ -16,11 +16,14 @@ abbrev pub all_differ : {X : Type 0} → (X → X → Bool) → List X → Bool
 all_differ same [] = true
 all_differ same (x ∷ xs) = not (list_any (same x) xs) && all_differ same xs
 
+abbrev pub is_below_first : {X : Type 0} → (X → X → Bool) → X → List X → Bool
+is_below_first below x [] = true
+is_below_first below x (y ∷ ys) = below x y
+
 -- each of the list is below the next
 abbrev pub all_rise : {X : Type 0} → (X → X → Bool) → List X → Bool
 all_rise below [] = true
-all_rise below (x ∷ []) = true
-all_rise below (x ∷ y ∷ xs) = below x y && all_rise below (y ∷ xs)
+all_rise below (x ∷ xs) = is_below_first below x xs && all_rise below xs
 
 -- a portion of the concatenated key, and no field of the content: its name begins with `/`
 abbrev pub is_key_portion : List ℕ → Bool
@@ -34,14 +37,8 @@ parent_is_before code (Some parent) = nat_lt 0 parent && nat_lt parent code
 abbrev pub parents_are_before : List SegType → Bool
 parents_are_before types = list_all (λ t. parent_is_before t.0 t.1.parent) (enumerate_from 1 types)
 
--- an XDFLD counts as a field of its target
-abbrev pub names_in : List IndexDef → ℕ → SegType → List (List ℕ)
-names_in indexes code t = map (λ f. f.name) t.fields ++ map (λ i. i.xdfld) (filter (λ i. i.target == code) indexes)
-
-abbrev pub names_differ : List SegType → List IndexDef → List PartDef → Bool
-names_differ types indexes parts =
-    all_differ bytes_eq (map (λ t. t.name) types) && all_differ bytes_eq (map (λ i. i.name) indexes) && all_differ bytes_eq (map (λ p. p.name) parts)
-    && all_differ ◌==◌ (map (λ p. p.number) parts) && list_all (λ t. all_differ bytes_eq (names_in indexes t.0 t.1)) (enumerate_from 1 types)
+abbrev pub type_names_differ : List SegType → Bool
+type_names_differ types = all_differ bytes_eq (map (λ t. t.name) types)
 
 abbrev pub counts_are_kept : List SegType → List IndexDef → List PartDef → Bool
 counts_are_kept types indexes parts =
@@ -93,10 +90,15 @@ abbrev pub highs_rise : List SegType → List PartDef → Bool
 highs_rise types parts =
     list_all (λ p. length p.high == key_bytes types 1) parts && all_rise (λ p q. is_lt (key_cmp p.high q.high)) parts
 
-abbrev pub part_is_kept : Bool → PartDef → Bool
-part_is_kept phdam p =
+abbrev pub factors_fit : Bool → PartDef → Bool
+factors_fit phdam p =
     (not phdam || (nat_le 1 p.anchors && nat_le p.anchors 1000000)) && (p.fbff == 0 || (nat_le 2 p.fbff && nat_le p.fbff 100)) && nat_le p.fspf 99
-    && nat_le 1 p.number && nat_le p.number 32767
+
+abbrev pub number_fits : ℕ → Bool
+number_fits number = nat_le 1 number && nat_le number 32767
+
+abbrev pub part_is_kept : Bool → PartDef → Bool
+part_is_kept phdam p = factors_fit phdam p && number_fits p.number
 
 abbrev pub blocks_are_kept : ℕ → Bool
 blocks_are_kept blocks = nat_le 1 blocks && nat_le blocks 65536

@@ -1,8 +1,10 @@
+pub mod Built
 pub mod Entry
 pub mod Faults
 pub mod First
 pub mod Forest
 pub mod Insertion
+pub mod Keeps
 pub mod Keys
 pub mod Lawful
 pub mod Places

@@ -1,6 +1,5 @@
 -- What a raw definition says: its types, indexes and partitions.
 use Rattle.std.specs.Prelude.{ℕ, ◌+◌, ◌*◌, ◌==◌, nat_lt, Bool, List, [], ◌∷◌, ◌++◌, length, Option, None, Some, option_and_then, map, filter, filter_map, find, flat_map, position, is_some, unwrap_or, insert, if◌then◌else◌}
-use Rattle.std.specs.List.{range_with_len}
 use Rattle.std.specs.Option.{option_map}
 use Rattle.std.specs.Ordering.{is_lt}
 use Rattle.std.specs.Str.{bytes_eq}
@@ -27,15 +26,15 @@ field_of f = record { name = f.name; start = f.start; bytes = f.bytes }
 abbrev pub is_sequence_field : RawField → Bool
 is_sequence_field f = nat_lt 0 f.seq
 
-abbrev pub key_field : RawType → Option KeyField
-key_field t = option_map (λ f. record { start = f.start; bytes = f.bytes; unique = f.seq == 1 }) (find is_sequence_field t.fields)
+abbrev pub key_field : List RawField → Option KeyField
+key_field fields = option_map (λ f. record { start = f.start; bytes = f.bytes; unique = f.seq == 1 }) (find is_sequence_field fields)
 
 abbrev pub seg_type : List RawType → RawType → SegType
 seg_type types t = record {
   name = t.name;
   parent = option_and_then (code_of types) t.parent;
   bytes = t.bytes;
-  key = key_field t;
+  key = key_field t.fields;
   first = t.first;
   letter = t.letter;
   fields = map field_of t.fields;
@@ -66,13 +65,21 @@ index_of types i = option_and_then (λ target. option_and_then (λ source. optio
   subseq = subseq;
 })) (fields_named t.fields i.subseq)) (fields_named t.fields i.search)) (type_of types source)) (code_named types i.source)) (code_named types i.target)
 
--- the indexes of one target, in raw order
-abbrev pub indexes_at : List SegType → List RawIndex → ℕ → List IndexDef
-indexes_at types indexes code = filter (λ i. i.target == code) (filter_map (index_of types) indexes)
+-- an item among others, behind those that go before it
+abbrev pub put_in_order : {X : Type 0} → (X → X → Bool) → X → List X → List X
+put_in_order goes x [] = x ∷ []
+put_in_order goes x (y ∷ ys) = if goes y x then y ∷ put_in_order goes x ys else x ∷ y ∷ ys
 
--- by the codes of their targets
+abbrev pub in_order : {X : Type 0} → (X → X → Bool) → List X → List X
+in_order goes [] = []
+in_order goes (x ∷ xs) = put_in_order goes x (in_order goes xs)
+
+-- by the codes of their targets, and under one target in raw order
+abbrev pub target_below : IndexDef → IndexDef → Bool
+target_below i j = nat_lt i.target j.target
+
 abbrev pub indexes_of : List SegType → List RawIndex → List IndexDef
-indexes_of types indexes = flat_map (indexes_at types indexes) (range_with_len 1 (length types))
+indexes_of types indexes = in_order target_below (filter_map (index_of types) indexes)
 
 -- a PHIDAM schema has no RMNAME
 abbrev pub rm_of : RawDbd → Option (List ℕ)
@@ -92,11 +99,9 @@ anchors_of dbd p = unwrap_or p.anchors (anch_of dbd * rbn_of dbd)
 abbrev pub part_of : RawDbd → RawPart → PartDef
 part_of dbd p = record { name = p.name; number = p.number; high = p.high; anchors = anchors_of dbd p; fbff = p.fbff; fspf = p.fspf }
 
--- a partition among others in the order of their high keys
-abbrev pub with_part : PartDef → List PartDef → List PartDef
-with_part part [] = part ∷ []
-with_part part (p ∷ parts) = if is_lt (key_cmp p.high part.high) then p ∷ with_part part parts else part ∷ p ∷ parts
+-- by their high keys
+abbrev pub high_below : PartDef → PartDef → Bool
+high_below p q = is_lt (key_cmp p.high q.high)
 
 abbrev pub parts_of : RawDbd → List RawPart → List PartDef
-parts_of dbd [] = []
-parts_of dbd (p ∷ parts) = with_part (part_of dbd p) (parts_of dbd parts)
+parts_of dbd parts = in_order high_below (map (part_of dbd) parts)

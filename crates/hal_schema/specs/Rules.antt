@@ -16,7 +16,7 @@ use Rattle.hal_schema.specs.declared.schema.SegType.{SegType}
 use Rattle.hal_schema.specs.declared.schema.PartDef.{PartDef}
 use Rattle.hal_schema.specs.SegType.{level_of, key_bytes}
 use Rattle.hal_schema.specs.Places.{statement, partition, when, twice, passing, least}
-use Rattle.hal_schema.specs.Lawful.{is_key_portion, field_fits, index_is_kept, blocks_are_kept}
+use Rattle.hal_schema.specs.Lawful.{is_key_portion, field_fits, index_is_kept, factors_fit, number_fits, blocks_are_kept}
 use Rattle.hal_schema.specs.Raw.{code_of, field_of, is_sequence_field, types_of, index_of, part_of}
 
 -- 1: a parent isn't a segment defined before
@@ -118,23 +118,16 @@ highs_broken types parts =
     flat_map (λ p. when (not (high_is_long (key_bytes types 1) p)) (partition p.place)) parts ++ twice same_high (λ p. partition p.place) parts
 
 -- 11: PHDAM anchors aren't 1 to 1,000,000, fbff isn't 0 or 2 to 100, or fspf isn't 0 to 99
-abbrev pub factors_fit : Bool → PartDef → Bool
-factors_fit phdam p =
-    (not phdam || (nat_le 1 p.anchors && nat_le p.anchors 1000000)) && (p.fbff == 0 || (nat_le 2 p.fbff && nat_le p.fbff 100)) && nat_le p.fspf 99
-
 abbrev pub factors_broken : RawDbd → List RawPart → List Place
 factors_broken dbd parts = flat_map (λ p. when (not (factors_fit dbd.phdam (part_of dbd p))) (partition p.place)) parts
 
 -- 12: blocks aren't 1 to 65,536, or a partition number isn't 1 to 32,767
-abbrev pub number_fits : RawPart → Bool
-number_fits p = nat_le 1 p.number && nat_le p.number 32767
-
 abbrev pub numbers_broken : RawParts → List Place
 numbers_broken parts = when (not (blocks_are_kept parts.blocks)) (partition 0)
-    ++ flat_map (λ p. when (not (number_fits p)) (partition p.place)) parts.parts
+    ++ flat_map (λ p. when (not (number_fits p.number)) (partition p.place)) parts.parts
 
 -- by rule, from rule 1 on: the places at which the rule is broken
-abbrev pub broken : RawSchema → List (List Place)
+unfoldable pub broken : RawSchema → List (List Place)
 broken raw =
     unknown_parents raw.dbd.types ∷ misplaced_roots raw.dbd.types ∷ names_repeated raw ∷ counts_passed raw ∷ sizes_broken raw.dbd.types ∷ sequence_broken raw.dbd.types
     ∷ root_key_broken (slice_get raw.dbd.types 0) ∷ letters_unknown raw.dbd.types ∷ indexes_broken (types_of raw.dbd.types) raw.dbd.indexes
@@ -145,5 +138,6 @@ abbrev pub first_broken : ℕ → List (List Place) → Option (ℕ × Place)
 first_broken rule [] = None
 first_broken rule (places ∷ rules) = option_map_or (λ place. Some (rule, place)) (least places) (first_broken (rule + 1) rules)
 
+-- what a definition is refused for, none where it keeps all rules
 abbrev pub first_fault : RawSchema → Option (ℕ × Place)
 first_fault raw = first_broken 1 (broken raw)

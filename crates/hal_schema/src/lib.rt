@@ -1,10 +1,12 @@
 //! What a database definition says once it is checked, and the rows that it orders.
 #![tactic(auto)]
 
+mod build;
 mod copy;
 mod entry_key;
 mod fault;
 mod first;
+mod judge;
 mod raw;
 mod row;
 mod rules;

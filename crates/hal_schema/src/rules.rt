@@ -10,6 +10,6 @@ mod types;
 pub(crate) use counts::counts_passed;
 pub(crate) use indexes::{index_of, indexes_broken};
 pub(crate) use names::names_repeated;
-pub(crate) use parents::{misplaced_roots, unknown_parents};
-pub(crate) use parts::{anch_of, anchors_of, factors_broken, highs_broken, numbers_broken, rbn_of, rm_of};
+pub(crate) use parents::{code_of, misplaced_roots, unknown_parents};
+pub(crate) use parts::{anch_of, factors_broken, highs_broken, numbers_broken, rbn_of, rm_of};
 pub(crate) use types::{letters_unknown, root_key_broken, sequence_broken, sizes_broken};

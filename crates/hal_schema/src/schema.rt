@@ -1,6 +1,6 @@
 ghost use Rattle.std.specs.Prelude.{IsTrue};
 ghost use Rattle.std.specs.List.{list_all};
-ghost use Rattle.hal_schema.specs.Lawful.{parents_are_before, names_differ, counts_are_kept, fields_fit, keys_are_fields, root_key_is_unique, letters_are_known, indexes_are_kept, highs_rise, part_is_kept, blocks_are_kept};
+ghost use Rattle.hal_schema.specs.Lawful.{parents_are_before, type_names_differ, counts_are_kept, fields_fit, keys_are_fields, root_key_is_unique, letters_are_known, indexes_are_kept, highs_rise, part_is_kept, blocks_are_kept};
 
 use hal_base::{Key, List, Name8};
 
@@ -73,7 +73,7 @@ pub struct Schema {
     pub parts: List<PartDef>,
     pub blocks: u32,
     pub ghost parents: { IsTrue (parents_are_before types) },
-    pub ghost names: { IsTrue (names_differ types indexes parts) },
+    pub ghost type_names: { IsTrue (type_names_differ types) },
     pub ghost counts: { IsTrue (counts_are_kept types indexes parts) },
     pub ghost fields: { IsTrue (fields_fit types) },
     pub ghost keys: { IsTrue (keys_are_fields types) },

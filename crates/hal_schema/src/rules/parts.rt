@@ -1,8 +1,8 @@
 ghost use Rattle.std.specs.Prelude.{◌≡◌, ◌<◌, ◌≤◌, ◌++◌, ◌==◌, not, OnOk, flat_map, length};
-ghost use Rattle.hal_schema.specs.Lawful.{blocks_are_kept};
+ghost use Rattle.hal_schema.specs.Lawful.{blocks_are_kept, factors_fit, number_fits};
 ghost use Rattle.hal_schema.specs.Places.{later, partition, twice, when};
 ghost use Rattle.hal_schema.specs.Raw.{anch_of, anchors_of, part_of, rbn_of, rm_of};
-ghost use Rattle.hal_schema.specs.Rules.{factors_broken, factors_fit, highs_broken, high_is_long, number_fits, numbers_broken, same_high};
+ghost use Rattle.hal_schema.specs.Rules.{factors_broken, highs_broken, high_is_long, numbers_broken, same_high};
 
 use crate::fault::{later, note, partition};
 use crate::rules::indexes::key_bytes;
@@ -104,7 +104,7 @@ pub(crate) fn numbers_broken(places: &mut List<Place>, parts: &RawParts) -> Resu
 }
 
 fn numbers_in(places: &mut List<Place>, parts: &[RawPart]) -> Result<(), Memory>
-    ensures { OnOk result (places.new ≡ places.old ++ flat_map (λ p. when (not (number_fits p)) (partition p.place)) parts.now) }
+    ensures { OnOk result (places.new ≡ places.old ++ flat_map (λ p. when (not (number_fits p.number)) (partition p.place)) parts.now) }
 {
     for p in parts {
         note(places, p.number < 1 || p.number > 32_767, partition(p.place))?;

@@ -6,10 +6,11 @@ use Rattle.hal_schema.specs.Places.{at_or_before, later, partition, passing, sta
 use Rattle.hal_schema.specs.Lawful.{field_fits, is_key_portion, is_within, same_field, index_is_kept}
 use Rattle.hal_schema.specs.SegType.{level_of, ancestry, parent_of, path_key_bytes}
 use Rattle.hal_schema.specs.Raw.{field_of, is_sequence_field, types_of, fields_named, part_of}
-use Rattle.hal_schema.specs.Rules.{both_sequence, field_names, fields_of, index_name, is_unknown_parent, letters_unknown, misplaced_roots, names_twice, part_name, same_name, same_high, same_number, number_fits, high_is_long, factors_fit, sequence_broken, sizes_broken, type_name, xdflds_of}
+use Rattle.hal_schema.specs.Rules.{both_sequence, field_names, fields_of, index_name, is_unknown_parent, letters_unknown, misplaced_roots, names_twice, part_name, same_name, same_high, same_number, high_is_long, sequence_broken, sizes_broken, type_name, xdflds_of}
 use Rattle.hal_schema.specs.Rules.{indexes_broken, factors_broken}
 use Rattle.std.specs.Option.{option_map}
+use Rattle.hal_schema.specs.Lawful.{number_fits}
 use Rattle.hal_schema.proofs.rules.parts.numbers_in.Given as goal
 
 abbrev pub invariant-loop-p : goal.invariant-loop-p
-invariant-loop-p l = l.places ≡ l.initial.places ++ flat_map (λ p. when (not (number_fits p)) (partition p.place)) (take l.p-index l.parts)
+invariant-loop-p l = l.places ≡ l.initial.places ++ flat_map (λ p. when (not (number_fits p.number)) (partition p.place)) (take l.p-index l.parts)
