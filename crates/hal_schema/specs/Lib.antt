@@ -1,0 +1,16 @@
+pub mod Built
+pub mod Entry
+pub mod Faults
+pub mod First
+pub mod Forest
+pub mod Insertion
+pub mod Keeps
+pub mod Keys
+pub mod Lawful
+pub mod Places
+pub mod Raw
+pub mod Roots
+pub mod Row
+pub mod Rules
+pub mod SegType
+pub mod Span

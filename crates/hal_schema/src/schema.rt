@@ -1,3 +1,7 @@
+ghost use Rattle.std.specs.Prelude.{IsTrue};
+ghost use Rattle.std.specs.List.{list_all};
+ghost use Rattle.hal_schema.specs.Lawful.{parents_are_before, type_names_differ, counts_are_kept, fields_fit, keys_are_fields, root_key_is_unique, letters_are_known, indexes_are_kept, highs_rise, part_is_kept, blocks_are_kept};
+
 use hal_base::{Key, List, Name8};
 
 /// A field of a segment, or a portion of a concatenated key: `start` counts from 1. DBD: FIELD.
@@ -68,4 +72,15 @@ pub struct Schema {
     pub indexes: List<IndexDef>,
     pub parts: List<PartDef>,
     pub blocks: u32,
+    pub ghost parents: { IsTrue (parents_are_before types) },
+    pub ghost type_names: { IsTrue (type_names_differ types) },
+    pub ghost counts: { IsTrue (counts_are_kept types indexes parts) },
+    pub ghost fields: { IsTrue (fields_fit types) },
+    pub ghost keys: { IsTrue (keys_are_fields types) },
+    pub ghost root_key: { IsTrue (root_key_is_unique types) },
+    pub ghost letters: { IsTrue (letters_are_known types) },
+    pub ghost kept_indexes: { IsTrue (indexes_are_kept types indexes) },
+    pub ghost highs: { IsTrue (highs_rise types parts) },
+    pub ghost kept_parts: { IsTrue (list_all (part_is_kept phdam) parts) },
+    pub ghost kept_blocks: { IsTrue (blocks_are_kept blocks) },
 }

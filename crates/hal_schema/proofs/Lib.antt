@@ -1,0 +1,10 @@
+pub mod Ancestry
+pub mod Kept
+pub mod Indexes
+pub mod Least
+pub mod Numbered
+pub mod RawTypes
+pub mod Named
+pub mod Judged
+pub mod KeptTypes
+pub mod Ordered

@@ -1,0 +1,104 @@
+-- What a checked definition keeps, as tests over its parts.
+use Rattle.std.specs.Prelude.{ℕ, ◌+◌, ◌==◌, nat_lt, nat_le, Bool, true, false, ◌&&◌, ◌||◌, not, List, [], ◌∷◌, ◌++◌, length, Option, None, Some, map, filter, sum_by, option_and_then, if◌then◌else◌}
+use Rattle.std.specs.List.{list_all, list_any, slice_get, enumerate_from}
+use Rattle.std.specs.Option.{option_map_or}
+use Rattle.std.specs.Ordering.{is_lt}
+use Rattle.hal_schema.specs.Keys.{key_cmp}
+use Rattle.std.specs.Str.{bytes_eq}
+use Rattle.hal_schema.specs.declared.schema.Field.{Field}
+use Rattle.hal_schema.specs.declared.schema.SegType.{SegType}
+use Rattle.hal_schema.specs.declared.schema.IndexDef.{IndexDef}
+use Rattle.hal_schema.specs.declared.schema.PartDef.{PartDef}
+use Rattle.hal_schema.specs.SegType.{type_of, parent_of, ancestry, level_of, key_bytes, path_key_bytes}
+
+-- no two of the list are the same
+abbrev pub all_differ : {X : Type 0} → (X → X → Bool) → List X → Bool
+all_differ same [] = true
+all_differ same (x ∷ xs) = not (list_any (same x) xs) && all_differ same xs
+
+abbrev pub is_below_first : {X : Type 0} → (X → X → Bool) → X → List X → Bool
+is_below_first below x [] = true
+is_below_first below x (y ∷ ys) = below x y
+
+-- each of the list is below the next
+abbrev pub all_rise : {X : Type 0} → (X → X → Bool) → List X → Bool
+all_rise below [] = true
+all_rise below (x ∷ xs) = is_below_first below x xs && all_rise below xs
+
+-- a portion of the concatenated key, and no field of the content: its name begins with `/`
+abbrev pub is_key_portion : List ℕ → Bool
+is_key_portion name = option_map_or (λ byte. byte == 47) (slice_get name 0) false
+
+-- the first type is the root type, and the parent of every other stands before it
+abbrev pub parent_is_before : ℕ → Option ℕ → Bool
+parent_is_before code None = code == 1
+parent_is_before code (Some parent) = nat_lt 0 parent && nat_lt parent code
+
+abbrev pub parents_are_before : List SegType → Bool
+parents_are_before types = list_all (λ t. parent_is_before t.0 t.1.parent) (enumerate_from 1 types)
+
+abbrev pub type_names_differ : List SegType → Bool
+type_names_differ types = all_differ bytes_eq (map (λ t. t.name) types)
+
+abbrev pub counts_are_kept : List SegType → List IndexDef → List PartDef → Bool
+counts_are_kept types indexes parts =
+    nat_le 1 (length types) && nat_le (length types) 255 && list_all (λ t. nat_le (level_of types t.0) 15) (enumerate_from 1 types)
+    && list_all (λ t. nat_le (length t.fields) 255) types && nat_le (length indexes) 16 && nat_le 1 (length parts) && nat_le (length parts) 100
+
+-- a portion of so many bytes, whose start counts from 1, lies within a length
+abbrev pub is_within : ℕ → ℕ → ℕ → Bool
+is_within all start bytes = nat_le 1 start && nat_le 1 bytes && nat_le (start + bytes) (all + 1)
+
+abbrev pub field_fits : ℕ → Field → Bool
+field_fits all f = if is_key_portion f.name then nat_le f.start 65535 && nat_le f.bytes 65535 else is_within all f.start f.bytes
+
+abbrev pub fields_fit : List SegType → Bool
+fields_fit types = list_all (λ t. nat_le 1 t.bytes && nat_le t.bytes 2000 && list_all (field_fits t.bytes) t.fields) types
+
+-- a sequence field is a field of its type
+abbrev pub keys_are_fields : List SegType → Bool
+keys_are_fields types =
+    list_all (λ t. option_map_or (λ k. nat_le k.bytes 100 && list_any (λ f. not (is_key_portion f.name) && f.start == k.start && f.bytes == k.bytes) t.fields) t.key true) types
+
+abbrev pub root_key_is_unique : List SegType → Bool
+root_key_is_unique types = option_map_or (λ k. k.unique) (option_and_then (λ t. t.key) (type_of types 1)) false
+
+-- `A` to `J`
+abbrev pub letters_are_known : List SegType → Bool
+letters_are_known types = list_all (λ t. nat_le 65 t.letter && nat_le t.letter 74) types
+
+abbrev pub same_field : Field → Field → Bool
+same_field a b = bytes_eq a.name b.name && a.start == b.start && a.bytes == b.bytes
+
+-- the search fields are fields of the source, and the SUBSEQ portions lie in its concatenated key
+abbrev pub fields_are_kept : List SegType → IndexDef → SegType → Bool
+fields_are_kept types i t =
+    list_all (λ f. not (is_key_portion f.name) && list_any (same_field f) t.fields) i.search
+    && list_all (λ f. is_key_portion f.name && list_any (same_field f) t.fields && is_within (path_key_bytes types i.source) f.start f.bytes) i.subseq
+
+-- the source is the target or below it
+abbrev pub index_is_kept : List SegType → IndexDef → Bool
+index_is_kept types i =
+    list_any (λ code. code == i.target) (ancestry (parent_of types) i.source) && nat_le 1 (length i.search) && nat_le (length i.search) 5
+    && option_map_or (fields_are_kept types i) (type_of types i.source) false && nat_le (sum_by (λ f. f.bytes) i.search + sum_by (λ f. f.bytes) i.subseq) 240
+
+abbrev pub indexes_are_kept : List SegType → List IndexDef → Bool
+indexes_are_kept types indexes = list_all (index_is_kept types) indexes && all_rise (λ i j. nat_le i.target j.target) indexes
+
+-- high keys have the length of the root key, and rise
+abbrev pub highs_rise : List SegType → List PartDef → Bool
+highs_rise types parts =
+    list_all (λ p. length p.high == key_bytes types 1) parts && all_rise (λ p q. is_lt (key_cmp p.high q.high)) parts
+
+abbrev pub factors_fit : Bool → PartDef → Bool
+factors_fit phdam p =
+    (not phdam || (nat_le 1 p.anchors && nat_le p.anchors 1000000)) && (p.fbff == 0 || (nat_le 2 p.fbff && nat_le p.fbff 100)) && nat_le p.fspf 99
+
+abbrev pub number_fits : ℕ → Bool
+number_fits number = nat_le 1 number && nat_le number 32767
+
+abbrev pub part_is_kept : Bool → PartDef → Bool
+part_is_kept phdam p = factors_fit phdam p && number_fits p.number
+
+abbrev pub blocks_are_kept : ℕ → Bool
+blocks_are_kept blocks = nat_le 1 blocks && nat_le blocks 65536
