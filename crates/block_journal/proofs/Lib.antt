@@ -4,3 +4,5 @@ pub mod Torn
 pub mod Images
 mod Placing
 pub mod Steps
+pub mod Rising
+pub mod Place
