@@ -6,3 +6,4 @@ mod Placing
 pub mod Steps
 pub mod Rising
 pub mod Place
+pub mod Standing

@@ -1,5 +1,5 @@
 // The journal: the blocks of the last commit, and the changes that are staged.
-ghost use Rattle.std.specs.Prelude.{◌≡◌, ◌≤◌, ◌^◌, ◌<◌, length, IsTrue};
+ghost use Rattle.std.specs.Prelude.{◌≡◌, ◌≤◌, ◌^◌, ◌<◌, All, length, IsTrue};
 ghost use Rattle.std.specs.Io.KnownBytes.{Appends};
 ghost use Rattle.hal_base.proofs.StopLemmas.{Read};
 ghost use Rattle.block_journal.specs.Commit.{last_byte};
@@ -25,6 +25,7 @@ pub struct Journal<T: Site> {
     ghost behind: { 8192 ≤ first },
     ghost near: { first ≤ 2 ^ 30 },
     ghost counted: { length kept.items ≡ count },
+    ghost whole: { All (λ block. length block ≡ 4096) kept.items },
     ghost rise: { IsTrue (are_changes 0 count staged.items) },
     ghost stands: { IsTrue live → Stands first count kept.items (T.image site) (T.left_at site (T.moment site)) },
 }
