@@ -92,3 +92,31 @@ impl<T: Site> Blocks for Journal<T> {
         }
     }
 }
+
+impl<T: Site> Store for Journal<T> {
+    fn commit(&mut self) -> Result<(), JournalFault> {
+        let count = self.count;
+        if self.staged.is_empty() {
+            return Ok(());
+        }
+        let Ok(body) = make_body(*self.staged.allocator(), &self.staged) else {
+            return Err(JournalFault::Memory);
+        };
+        let done = commit_changes(&mut self.site, self.first, count, &self.staged, &body);
+        if done.is_err() {
+            self.live = false;
+            return Err(JournalFault::DiskFault);
+        }
+        make_changes(&mut self.kept, &self.staged);
+        self.staged.clear();
+        Ok(())
+    }
+
+    fn forget(&mut self) {
+        self.staged.clear();
+    }
+
+    fn say(&mut self, text: &[u8]) -> Result<(), Failed> {
+        self.site.say(text)
+    }
+}

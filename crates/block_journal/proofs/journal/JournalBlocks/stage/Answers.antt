@@ -4,7 +4,7 @@ use Rattle.block_journal.proofs.journal.JournalBlocks.stage.Goals as goal
 
 pub invariant_of-self : goal.invariant_of-self
 invariant_of-self g c =
-    let long : length c.args.from.now ≡ 4096 = search (rules, c.told-from, c.fits-from) in
+    let long : length c.args.from.now ≡ 4096 = search (rules, c.told-from) in
     record {
       behind = c.args.self.now.behind;
       near = c.args.self.now.near;
