@@ -24,6 +24,15 @@ unfolding put_all
 length-put_all [] blocks = refl
 length-put_all (c ∷ cs) blocks = length-put_all cs (set blocks c.number c.content) ∙ length-set blocks c.number c.content
 
+pub put_all-more : (cs : List Change) (c : Change) (blocks : List (List ℕ)) → put_all (cs ++ c ∷ []) blocks ≡ set (put_all cs blocks) c.number c.content
+unfolding put_all
+put_all-more [] c blocks = refl
+put_all-more (d ∷ cs) c blocks = put_all-more cs c (set blocks d.number d.content)
+
+pub put_all-none : (blocks : List (List ℕ)) → put_all [] blocks ≡ blocks
+unfolding put_all
+put_all-none blocks = refl
+
 set_both : (k : ℕ) (b : List ℕ) (xs ys : List (List ℕ)) → length xs ≡ length ys → get_or (set xs k b) k [] ≡ get_or (set ys k b) k []
 set_both k b xs ys same = ⊎_elim (inside) (past) (cases_lt k (length xs))
   where

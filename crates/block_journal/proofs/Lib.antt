@@ -4,3 +4,6 @@ pub mod Torn
 pub mod Images
 mod Placing
 pub mod Steps
+pub mod Rising
+pub mod Place
+pub mod Standing

@@ -57,7 +57,7 @@ change_bytes change = to_be_bytes w32 change.number ++ change.content
 abbrev pub body_bytes : List Change → List ℕ
 body_bytes changes = to_be_bytes w32 (length changes) ++ to_be_bytes w32 1 ++ flat_map change_bytes changes
 
--- the numbers rise from `from` on, and are below the count of blocks
-abbrev pub numbers_rise : ℕ → ℕ → List Change → Bool
-numbers_rise from count [] = true
-numbers_rise from count (change ∷ changes) = nat_le from change.number && nat_lt change.number count && numbers_rise (change.number + 1) count changes
+-- the numbers rise from `from` on and are below the count of blocks, and each has a whole block
+unfoldable pub are_changes : ℕ → ℕ → List Change → Bool
+are_changes from count [] = true
+are_changes from count (change ∷ changes) = nat_le from change.number && nat_lt change.number count && length change.content == 4096 && are_changes (change.number + 1) count changes

@@ -3,6 +3,9 @@
 
 mod change;
 mod device;
+mod journal;
 mod protocol;
+mod staged;
 
 pub use change::Change;
+pub use journal::Journal;

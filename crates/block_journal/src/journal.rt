@@ -1,0 +1,122 @@
+// The journal: the blocks of the last commit, and the changes that are staged.
+ghost use Rattle.std.specs.Prelude.{◌≡◌, ◌≤◌, ◌^◌, ◌<◌, All, length, IsTrue};
+ghost use Rattle.std.specs.Io.KnownBytes.{Appends};
+ghost use Rattle.hal_base.proofs.StopLemmas.{Read};
+ghost use Rattle.block_journal.specs.Commit.{last_byte};
+ghost use Rattle.block_journal.specs.Redo.{are_changes, put_all, redone};
+ghost use Rattle.block_journal.specs.Stands.{Stands, told_where, say_room};
+
+use crate::Change;
+use crate::protocol::commit_changes;
+use crate::staged::{copy_block, make_body, make_changes, put_change};
+use hal_base::{BLOCK, Blocks, Failed, JournalFault, Live, Site, StageFault, Store};
+
+/// Blocks that stand in an image from `first` on, with their journal behind them. All of them are held in
+/// memory, and beside them what is staged.
+#[derive(Drop)]
+pub struct Journal<T: Site> {
+    site: T,
+    first: u64,
+    count: u32,
+    kept: Vec<[u8; BLOCK]>,
+    staged: Vec<Change>,
+    fetches: u64,
+    live: bool,
+    ghost behind: { 8192 ≤ first },
+    ghost near: { first ≤ 2 ^ 30 },
+    ghost counted: { length kept.items ≡ count },
+    ghost whole: { All (λ block. length block ≡ 4096) kept.items },
+    ghost rise: { IsTrue (are_changes 0 count staged.items) },
+    ghost stands: { IsTrue live → Stands first count kept.items (T.image site) (T.left_at site (T.moment site)) },
+}
+
+impl<T: Site> Journal<T> {
+    /// The site, with no further call.
+    pub fn close(self) -> T {
+        let Journal {
+            site,
+            first: _,
+            count: _,
+            kept: _,
+            staged: _,
+            fetches: _,
+            live: _,
+        } = self;
+        site
+    }
+}
+
+impl<T: Site> Live for Journal<T> {
+    ghost live = { λ j. j.live };
+
+    fn is_live(&self) -> bool {
+        self.live
+    }
+}
+
+impl<T: Site> Blocks for Journal<T> {
+    ghost list = { λ j. told_where (T.image j.site) (put_all j.staged.items j.kept.items) };
+
+    ghost number = { λ j. j.count };
+
+    ghost committed = { λ j. told_where (T.image j.site) j.kept.items };
+
+    ghost said = { λ j. T.said j.site };
+
+    ghost moment = { λ j. T.moment j.site };
+
+    ghost left_at = { λ j moment blocks text. Read (redone j.first j.count) (T.left_at j.site) moment blocks text };
+
+    ghost disk_faults = { λ j. T.disk_faults j.site };
+
+    ghost say_faults = { λ j. T.say_faults j.site };
+
+    ghost room = { λ j. say_room (last_byte j.first j.count) (T.room j.site) };
+
+    ghost fetches = { λ j. j.fetches };
+
+    fn count(&self) -> u32 {
+        self.count
+    }
+
+    fn fetch(&mut self, n: u32, into: &mut [u8; BLOCK]) -> Result<(), Failed> {
+        copy_block(&self.staged, &self.kept, n, into);
+        self.fetches = self.fetches.saturating_add(1);
+        Ok(())
+    }
+
+    fn stage(&mut self, n: u32, from: &[u8; BLOCK]) -> Result<(), StageFault> {
+        match put_change(&mut self.staged, n, from) {
+            Ok(()) => Ok(()),
+            Err(_) => Err(StageFault::Memory),
+        }
+    }
+}
+
+impl<T: Site> Store for Journal<T> {
+    fn commit(&mut self) -> Result<(), JournalFault> {
+        let count = self.count;
+        if self.staged.is_empty() {
+            return Ok(());
+        }
+        let Ok(body) = make_body(*self.staged.allocator(), &self.staged) else {
+            return Err(JournalFault::Memory);
+        };
+        let done = commit_changes(&mut self.site, self.first, count, &self.staged, &body);
+        if done.is_err() {
+            self.live = false;
+            return Err(JournalFault::DiskFault);
+        }
+        make_changes(&mut self.kept, &self.staged);
+        self.staged.clear();
+        Ok(())
+    }
+
+    fn forget(&mut self) {
+        self.staged.clear();
+    }
+
+    fn say(&mut self, text: &[u8]) -> Result<(), Failed> {
+        self.site.say(text)
+    }
+}
