@@ -8,3 +8,6 @@ pub mod Named
 pub mod Judged
 pub mod KeptTypes
 pub mod Ordered
+pub mod KeptSchema
+pub mod KeptKeys
+pub mod KeptNames

@@ -7,10 +7,30 @@ ghost use Rattle.hal_schema.specs.Lawful.{factors_fit, field_fits, number_fits};
 ghost use Rattle.hal_schema.specs.Raw.{anchors_of, code_of, field_of, indexes_of, key_field, part_of, parts_of, seg_type, types_of};
 ghost use Rattle.hal_schema.specs.Rules.{first_fault, sizes_broken, sizes_in};
 
+use crate::built::built;
 use crate::rules::{anch_of, code_of, index_of, rbn_of};
-use crate::{Field, IndexDef, KeyField, PartDef, RawDbd, RawField, RawIndex, RawPart, RawType, SegType};
+use crate::{
+    Field, IndexDef, KeyField, PartDef, RawDbd, RawField, RawIndex, RawPart, RawSchema, RawType, Schema, SchemaFault,
+    SegType,
+};
 use hal_base::{List, Memory};
 use std::alloc::Global;
+
+impl Schema {
+    ghost use Rattle.hal_schema.specs.Built.{IsSchemaOf};
+
+    /// The schema that a definition says, where it keeps all rules; else the least rule that is broken, at the
+    /// first item that breaks it. Items are the statements by their lines, then `blocks`, then the partitions by
+    /// their places.
+    pub fn build(alloc: Global, raw: RawSchema) -> Result<Schema, SchemaFault>
+        requires { 0 < length raw.dbd.types }
+        ensures kept { OnOk result (first_fault raw ≡ None) }
+        ensures schema { IfOk result (IsSchemaOf raw) }
+        ensures broken { IfErr result (IsFault (first_fault raw)) }
+    {
+        built(alloc, &raw)
+    }
+}
 
 /// The types in the order of the definition.
 pub(crate) fn build_types(alloc: Global, types: &[RawType]) -> Result<List<SegType>, Memory>

@@ -2,6 +2,7 @@
 #![tactic(auto)]
 
 mod build;
+mod built;
 mod copy;
 mod entry_key;
 mod fault;
