@@ -2,11 +2,13 @@
 //! a reply.
 #![tactic(auto)]
 
+mod fault;
 mod line;
 mod printing;
 mod reply;
 mod replying;
 mod values;
+mod words;
 
 pub use line::{Call, Clause, Command, Line, Open, Ssa, Value};
 pub use printing::print_line;
