@@ -42,7 +42,13 @@ name_at text = if is_name (map upper (take_while in_word text)) then Ok (map upp
 unfoldable pub word_at : List ℕ → Result (List ℕ × List ℕ) Fault
 word_at text = if is_word (map upper (take_while in_word text)) then Ok (map upper (take_while in_word text), past in_word text) else Err faults.Form
 
--- behind the opening quote: two quotes are one, and one closes
+-- the next byte of a text: two quotes are one, and one quote closes it
+abbrev pub text_byte_at : List ℕ → Result (Option ℕ × List ℕ) Fault
+text_byte_at [] = Err faults.Value
+text_byte_at (b ∷ []) = if b == 39 then Ok (None, []) else Ok (Some b, [])
+text_byte_at (b ∷ c ∷ rest) = if b == 39 then (if c == 39 then Ok (Some 39, rest) else Ok (None, c ∷ rest)) else Ok (Some b, c ∷ rest)
+
+-- behind the opening quote
 unfoldable pub text_at : List ℕ → Result (List ℕ × List ℕ) Fault
 text_at [] = Err faults.Value
 text_at (b ∷ []) = if b == 39 then Ok ([], []) else Err faults.Value
@@ -59,6 +65,12 @@ hex_value b = if nat_le b 57 then b - 48 else upper b - 55
 abbrev pub close_at : List ℕ → Result (List ℕ × List ℕ) Fault
 close_at [] = Err faults.Value
 close_at (b ∷ rest) = if b == 39 then Ok ([], rest) else Err faults.Value
+
+-- two hexadecimal digits
+abbrev pub pair_at : List ℕ → Option (ℕ × List ℕ)
+pair_at [] = None
+pair_at (a ∷ []) = None
+pair_at (a ∷ b ∷ rest) = if is_hex a && is_hex b then Some (16 * hex_value a + hex_value b, rest) else None
 
 -- pairs of hexadecimal digits, and the closing quote
 unfoldable pub pairs_at : List ℕ → Result (List ℕ × List ℕ) Fault

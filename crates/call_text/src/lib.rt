@@ -5,6 +5,7 @@
 mod fault;
 mod line;
 mod printing;
+mod read_values;
 mod reply;
 mod replying;
 mod values;
