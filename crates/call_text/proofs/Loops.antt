@@ -1,11 +1,14 @@
 -- Reading one part after the other, as a loop does.
-use Rattle.std.proofs.Common.{◌≡◌, ℕ, ◌+◌, ◌*◌, ◌&&◌, Bool, true, false, cond, ◌==◌, List, [], ◌∷◌, ◌++◌, Option, Some, None, Result, Ok, Err, refl, sym, ap, ◌∙◌, append_assoc}
+use Rattle.std.proofs.Common.{◌≡◌, ℕ, zero, suc, ◌+◌, ◌-◌, ◌*◌, ◌<◌, ◌&&◌, arith, Bool, true, false, cond, ◌==◌, List, [], ◌∷◌, ◌++◌, Option, Some, None, Result, Ok, Err, refl, sym, ap, ◌∙◌, append_assoc}
 use Rattle.std.proofs.lemmas.List.{append-nil}
 use Rattle.call_text.specs.declared.fault.Fault.{Fault}
 use Rattle.call_text.specs.declared.fault.Fault.TheVariants as faults
 use Rattle.call_text.specs.declared.fault.ReadError.{ReadError}
 use Rattle.call_text.specs.declared.fault.ReadError.TheVariants as errors
-use Rattle.call_text.specs.Reading.{◌>>=◌, Fails, text_byte_at, text_at, is_hex, hex_value, close_at, pair_at, pairs_at}
+use Rattle.call_text.specs.declared.line.Clause.{Clause}
+use Rattle.call_text.specs.declared.line.Ssa.{Ssa}
+use Rattle.call_text.specs.Words.{is_blank, past}
+use Rattle.call_text.specs.Reading.{◌>>=◌, Fails, clause_and_connector_at, clauses_at, begins_ssa, ssa_at, ssas_at, text_byte_at, text_at, is_hex, hex_value, close_at, pair_at, pairs_at}
 
 -- what was read before, and what is still read
 abbrev pub with_front : {A : Type 0} → List A → Result (List A × List ℕ) Fault → Result (List A × List ℕ) Fault
@@ -98,3 +101,77 @@ pairs_close front text rest total h so_far = sym so_far ∙ ap (with_front front
 pub pairs_end : (e : ReadError) (front text : List ℕ) (total : Result (List ℕ × List ℕ) Fault) → Fails e (close_at text) → with_front front (close_at text) ≡ total → Fails e total
 pairs_end errors.Memory front text total h so_far = tt
 pairs_end (errors.Fault f) front text total h so_far = sym so_far ∙ ap (with_front front) h
+
+-- ---- clauses
+
+abbrev ClausesRead : Type 0
+ClausesRead = Result (List Clause × List ℕ) Fault
+
+clauses_then : ℕ → Result (Clause × Option Bool × List ℕ) Fault → ClausesRead
+clauses_then n first = first >>= λ x. onto x.0 (clauses_at n x.1 x.2)
+
+clauses_step : (n : ℕ) (or : Bool) (text : List ℕ) → clauses_at (suc n) (Some or) text ≡ clauses_then n (clause_and_connector_at or text)
+unfolding clauses_at clauses_then
+clauses_step n or text = refl
+
+pub clauses_go_on : (front : List Clause) (left : ℕ) (or : Bool) (text : List ℕ) (clause : Clause) (next : Option Bool) (rest : List ℕ) (total : ClausesRead) → 0 < left → clause_and_connector_at or text ≡ Ok (clause, next, rest) → with_front front (clauses_at left (Some or) text) ≡ total → with_front (front ++ clause ∷ []) (clauses_at (left - 1) next rest) ≡ total
+unfolding clauses_then
+clauses_go_on front left or text clause next rest total some h so_far =
+    let k : left ≡ suc (left - 1) = omega arith in
+    let step : clauses_at left (Some or) text ≡ onto clause (clauses_at (left - 1) next rest) = ap (λ (n : ℕ). clauses_at n (Some or) text) k ∙ clauses_step (left - 1) or text ∙ rw h refl in
+    sym (front_more front clause (clauses_at (left - 1) next rest)) ∙ ap (with_front front) (sym step) ∙ so_far
+
+pub clauses_end : (e : ReadError) (front : List Clause) (left : ℕ) (or : Bool) (text : List ℕ) (total : ClausesRead) → 0 < left → Fails e (clause_and_connector_at or text) → with_front front (clauses_at left (Some or) text) ≡ total → Fails e total
+unfolding clauses_then
+clauses_end errors.Memory front left or text total some h so_far = tt
+clauses_end (errors.Fault f) front left or text total some h so_far =
+    let k : left ≡ suc (left - 1) = omega arith in
+    let step : clauses_at left (Some or) text ≡ Err f = ap (λ (n : ℕ). clauses_at n (Some or) text) k ∙ clauses_step (left - 1) or text ∙ rw h refl in
+    sym so_far ∙ ap (with_front front) step
+
+pub clauses_many : (front : List Clause) (or : Bool) (text : List ℕ) (total : ClausesRead) → with_front front (clauses_at 0 (Some or) text) ≡ total → total ≡ Err faults.Form
+unfolding clauses_at
+clauses_many front or text total so_far = sym so_far
+
+pub clauses_close : (front : List Clause) (left : ℕ) (text : List ℕ) (total : ClausesRead) → with_front front (clauses_at left None text) ≡ total → total ≡ Ok (front, text)
+unfolding clauses_at
+clauses_close front zero text total so_far = sym so_far ∙ front_all front text
+clauses_close front (suc n) text total so_far = sym so_far ∙ front_all front text
+
+-- ---- SSAs
+
+abbrev SsasRead : Type 0
+SsasRead = Result (List Ssa × List ℕ) Fault
+
+ssas_then : ℕ → Result (Ssa × List ℕ) Fault → SsasRead
+ssas_then n first = first >>= λ x. onto x.0 (ssas_at n x.1)
+
+ssas_step : (n : ℕ) (text : List ℕ) → begins_ssa text ≡ true → ssas_at (suc n) text ≡ ssas_then n (ssa_at (past is_blank text))
+unfolding ssas_at ssas_then
+ssas_step n text begins = rw begins refl
+
+pub ssas_go_on : (front : List Ssa) (left : ℕ) (text : List ℕ) (ssa : Ssa) (rest : List ℕ) (total : SsasRead) → 0 < left → begins_ssa text ≡ true → ssa_at (past is_blank text) ≡ Ok (ssa, rest) → with_front front (ssas_at left text) ≡ total → with_front (front ++ ssa ∷ []) (ssas_at (left - 1) rest) ≡ total
+unfolding ssas_then
+ssas_go_on front left text ssa rest total some begins h so_far =
+    let k : left ≡ suc (left - 1) = omega arith in
+    let step : ssas_at left text ≡ onto ssa (ssas_at (left - 1) rest) = ap (λ (n : ℕ). ssas_at n text) k ∙ ssas_step (left - 1) text begins ∙ rw h refl in
+    sym (front_more front ssa (ssas_at (left - 1) rest)) ∙ ap (with_front front) (sym step) ∙ so_far
+
+pub ssas_end : (e : ReadError) (front : List Ssa) (left : ℕ) (text : List ℕ) (total : SsasRead) → 0 < left → begins_ssa text ≡ true → Fails e (ssa_at (past is_blank text)) → with_front front (ssas_at left text) ≡ total → Fails e total
+unfolding ssas_then
+ssas_end errors.Memory front left text total some begins h so_far = tt
+ssas_end (errors.Fault f) front left text total some begins h so_far =
+    let k : left ≡ suc (left - 1) = omega arith in
+    let step : ssas_at left text ≡ Err f = ap (λ (n : ℕ). ssas_at n text) k ∙ ssas_step (left - 1) text begins ∙ rw h refl in
+    sym so_far ∙ ap (with_front front) step
+
+pub ssas_none_left : (front : List Ssa) (text : List ℕ) (total : SsasRead) → with_front front (ssas_at 0 text) ≡ total → total ≡ Ok (front, text)
+unfolding ssas_at
+ssas_none_left front text total so_far = sym so_far ∙ front_all front text
+
+pub ssas_stop : (front : List Ssa) (left : ℕ) (text : List ℕ) (total : SsasRead) → begins_ssa text ≡ false → with_front front (ssas_at left text) ≡ total → total ≡ Ok (front, text)
+unfolding ssas_at
+ssas_stop front zero text total begins so_far = sym so_far ∙ front_all front text
+ssas_stop front (suc n) text total begins so_far =
+    let step : ssas_at (suc n) text ≡ Ok ([], text) = rw begins refl in
+    sym so_far ∙ ap (with_front front) step ∙ front_all front text

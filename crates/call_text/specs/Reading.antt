@@ -117,15 +117,20 @@ unfoldable pub connector_at : List ℕ → Result (Option Bool × List ℕ) Faul
 connector_at [] = Err faults.Form
 connector_at (b ∷ rest) = if b == 41 then Ok (None, rest) else if b == 38 || b == 42 then Ok (Some false, rest) else if b == 124 || b == 43 then Ok (Some true, rest) else Err faults.Form
 
+unfoldable pub clause_and_connector_at : Bool → List ℕ → Result (Clause × Option Bool × List ℕ) Fault
+clause_and_connector_at or text = do
+  clause ← clause_at or (past is_blank text)
+  next ← connector_at (past is_blank clause.1)
+  Ok (clause.0, next.0, next.1)
+
 -- the clauses from a connector on; there are no more than bytes
 unfoldable pub clauses_at : ℕ → Option Bool → List ℕ → Result (List Clause × List ℕ) Fault
 clauses_at n None text = Ok ([], text)
 clauses_at zero (Some or) text = Err faults.Form
 clauses_at (suc n) (Some or) text = do
-  clause ← clause_at or (past is_blank text)
-  next ← connector_at (past is_blank clause.1)
-  more ← clauses_at n next.0 next.1
-  Ok (clause.0 ∷ more.0, more.1)
+  first ← clause_and_connector_at or text
+  more ← clauses_at n first.1 first.2
+  Ok (first.0 ∷ more.0, more.1)
 
 unfoldable pub codes_at : List ℕ → Result (List ℕ × List ℕ) Fault
 codes_at [] = Ok ([], [])

@@ -5,7 +5,9 @@
 mod fault;
 mod line;
 mod printing;
+mod read_ssas;
 mod read_values;
+mod reading;
 mod reply;
 mod replying;
 mod values;
@@ -13,6 +15,7 @@ mod words;
 
 pub use line::{Call, Clause, Command, Line, Open, Ssa, Value};
 pub use printing::print_line;
+pub use reading::read_line;
 pub use reply::{PartOut, Reply, SegOut};
 pub use replying::reply_line;
 

@@ -81,13 +81,20 @@ pub fn upper_bytes(alloc: Global, text: &[u8]) -> Result<Bytes, Memory>
     Ok(bytes)
 }
 
-#[tactic(auto, unfolding(crate::specs::Reading::name_at))]
-pub fn name_of(text: &[u8]) -> Result<(Name8, &[u8]), ReadError>
-    ensures { Gives (λ x. (x.0, x.1.now)) result (name_at text.now) }
+/// What stands behind the longest word at the front.
+pub fn past_word(text: &[u8]) -> &[u8]
+    ensures { result.now ≡ past in_word text.now }
 {
-    let (word, rest) = split_word(text);
-    match Name8::read(word) {
-        Some(name) => Ok((name, rest)),
+    split_word(text).1
+}
+
+/// The name at the front, behind which stands what is past the word.
+#[tactic(auto, unfolding(crate::specs::Reading::name_at))]
+pub fn name_of(text: &[u8]) -> Result<Name8, ReadError>
+    ensures { Gives (λ name. (name, past in_word text.now)) result (name_at text.now) }
+{
+    match Name8::read(split_word(text).0) {
+        Some(name) => Ok(name),
         None => Err(ReadError::Fault(Fault::Form)),
     }
 }
