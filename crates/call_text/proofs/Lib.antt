@@ -1,1 +1,4 @@
+pub mod Again
 pub mod Loops
+pub mod Runs
+pub mod Stopping

@@ -2,4 +2,5 @@ pub mod Printed
 pub mod Printing
 pub mod Reading
 pub mod Replying
+pub mod Spelling
 pub mod Words
