@@ -1,4 +1,7 @@
 pub mod Again
+pub mod ClausesAgain
+pub mod LinesAgain
 pub mod Loops
 pub mod Runs
+pub mod SsasAgain
 pub mod Stopping
