@@ -25,7 +25,7 @@ pub record Behind (rest : List ℕ) : Type 0 where
   pub no_star : Stops is_star rest
   pub no_parenthesis : begins_with 40 (past is_blank rest) ≡ false
 
-name_begins : (text name rest : List ℕ) → SpellsName text name → begins_word (text ++ rest) ≡ true
+pub name_begins : (text name rest : List ℕ) → SpellsName text name → begins_word (text ++ rest) ≡ true
 name_begins [] name rest h =
     let none_there : is_name [] ≡ true = subst (λ (n : List ℕ). is_name n ≡ true) (sym h.spelled) h.is in
     absurd cc
