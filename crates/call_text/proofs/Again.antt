@@ -111,7 +111,7 @@ value_hex mark tail h = rw (mark_no_quote mark h, h) refl
 
 pub value_again : (text : List ℕ) (value : Value) (rest : List ℕ) → SpellsValue text value → Stops is_quote rest → value_at (text ++ rest) ≡ Ok (value, rest)
 value_again text (Text bytes) rest h stops =
-    let regrouped : text ++ rest ≡ 39 ∷ (flat_map doubled bytes ++ 39 ∷ rest) = ap (λ (t : List ℕ). t ++ rest) h ∙ ap (λ (t : List ℕ). 39 ∷ t) (append_assoc (flat_map doubled bytes) (39 ∷ []) rest) in
+    let regrouped : text ++ rest ≡ 39 ∷ (flat_map doubled bytes ++ 39 ∷ rest) = ap (λ (t : List ℕ). t ++ rest) h.0 ∙ ap (λ (t : List ℕ). 39 ∷ t) (append_assoc (flat_map doubled bytes) (39 ∷ []) rest) in
     ap value_at regrouped ∙ value_text (flat_map doubled bytes ++ 39 ∷ rest) ∙ rw (text_again bytes rest stops) refl
 value_again text (Hex bytes) rest h stops =
     let regrouped : text ++ rest ≡ h.mark ∷ 39 ∷ (h.digits ++ 39 ∷ rest) = ap (λ (t : List ℕ). t ++ rest) h.whole ∙ ap (λ (t : List ℕ). h.mark ∷ 39 ∷ t) (append_assoc h.digits (39 ∷ []) rest) in

@@ -5,3 +5,4 @@ pub mod Loops
 pub mod Runs
 pub mod SsasAgain
 pub mod Stopping
+pub mod ValuesPrinted

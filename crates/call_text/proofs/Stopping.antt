@@ -69,8 +69,9 @@ mark_is_true : (b : ℕ) → upper b ≡ 88 → is_mark b ≡ true
 mark_is_true b h = rw h refl
 
 pub value_no_blank : (text : List ℕ) (value : Value) (rest : List ℕ) → SpellsValue text value → Stops is_blank (text ++ rest)
-value_no_blank [] (Text bytes) rest h = absurd cc
+value_no_blank [] (Text bytes) rest h = let e = h.0 in absurd cc
 value_no_blank (b ∷ text) (Text bytes) rest h =
+    let e = h.0 in
     let is : b ≡ 39 = cc in
     rw is refl
 value_no_blank [] (Hex bytes) rest h = let e = h.whole in absurd cc
@@ -80,8 +81,9 @@ value_no_blank (b ∷ text) (Hex bytes) rest h =
     rw is (other_byte 32 is_mark refl h.mark (mark_is_true h.mark h.mark_is))
 
 pub value_no_sign : (text : List ℕ) (value : Value) (rest : List ℕ) → SpellsValue text value → Stops is_sign (text ++ rest)
-value_no_sign [] (Text bytes) rest h = absurd cc
+value_no_sign [] (Text bytes) rest h = let e = h.0 in absurd cc
 value_no_sign (b ∷ text) (Text bytes) rest h =
+    let e = h.0 in
     let is : b ≡ 39 = cc in
     rw is refl
 value_no_sign [] (Hex bytes) rest h = let e = h.whole in absurd cc

@@ -42,7 +42,7 @@ SpellsPairs (a ∷ []) bytes = ⊥
 SpellsPairs (a ∷ b ∷ digits) [] = ⊥
 SpellsPairs (a ∷ b ∷ digits) (x ∷ xs) = (is_hex a ≡ true) × (is_hex b ≡ true) × (x ≡ 16 * hex_value a + hex_value b) × SpellsPairs digits xs
 
--- X'hex', one byte or more
+-- X and quoted digits, one byte or more
 pub record SpellsHex (text bytes : List ℕ) : Type 0 where
   pub mark : ℕ
   pub digits : List ℕ
@@ -51,8 +51,9 @@ pub record SpellsHex (text bytes : List ℕ) : Type 0 where
   pub some : 0 < length bytes
   pub pairs : SpellsPairs digits bytes
 
+-- quoted text of printable bytes, or bytes in hexadecimal
 abbrev pub SpellsValue : List ℕ → Value → Type 0
-SpellsValue text (Text bytes) = text ≡ quoted bytes
+SpellsValue text (Text bytes) = (text ≡ quoted bytes) × (list_all is_printable bytes ≡ true)
 SpellsValue text (Hex bytes) = SpellsHex text bytes
 
 -- a run of signs, with gaps round it

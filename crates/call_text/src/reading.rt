@@ -3,6 +3,8 @@ ghost use Rattle.std.specs.Prelude.{◌≡◌, IfOk, length};
 ghost use Rattle.std.specs.List.{list_all};
 ghost use Rattle.call_text.specs.Printing.{is_printable};
 ghost use Rattle.call_text.specs.Words.{past, in_word};
+ghost use Rattle.call_text.specs.declared.line.Line.{Line};
+ghost use Rattle.call_text.specs.Spelling.{Spells};
 ghost use Rattle.call_text.specs.Reading.{Gives, given_at, call_at, is_reserved, session_at, index_at, open_at, plain_command, command_at, reorg_at, form_at, is_silent, cause_of, line_of};
 
 use crate::fault::{Fault, ReadError};
@@ -174,9 +176,8 @@ fn cause_of(fault: Fault) -> u8
     }
 }
 
-/// Reads a line of a script, without its end. Each line is one: `Silent`, a form, or `Bad` with its cause.
 #[tactic(auto, unfolding(crate::specs::Reading::line_of))]
-pub fn read_line(alloc: Global, line: &[u8]) -> Result<Line, Memory>
+fn read(alloc: Global, line: &[u8]) -> Result<Line, Memory>
     ensures { IfOk result (λ read. read ≡ line_of line.now) }
 {
     if is_silent(line) {
@@ -193,4 +194,14 @@ pub fn read_line(alloc: Global, line: &[u8]) -> Result<Line, Memory>
         Err(ReadError::Fault(fault)) => Ok(Line::Bad(cause_of(fault))),
         Err(ReadError::Memory) => Err(Memory),
     }
+}
+
+/// Reads a line of a script, without its end. Each text is one line: silent, a form, or bad with its cause.
+pub fn read_line(alloc: Global, line: &[u8]) -> Result<Line, Memory>
+    // What is spelled so is read.
+    ensures only { (form : Line) → Spells line.now form → IfOk result (λ read. read ≡ form) }
+    // Which cause it is, where the text spells no line.
+    ensures exact { IfOk result (λ read. read ≡ line_of line.now) }
+{
+    read(alloc, line)
 }
