@@ -1,5 +1,6 @@
 pub mod Again
 pub mod ClausesAgain
+pub mod FormsPrinted
 pub mod LinesAgain
 pub mod Loops
 pub mod Runs
