@@ -111,7 +111,7 @@ clause_printed text clause h =
     }
 
 -- the clauses behind the first, and the closing parenthesis
-abbrev closing : List Clause → List ℕ
+abbrev pub closing : List Clause → List ℕ
 closing more = flat_map joined_clause more ++ 41 ∷ []
 
 stands_printed : (text : List ℕ) (or : Bool) (clause : Clause) (rest printed : List ℕ) → StandsBefore text or clause rest → StandsBefore (clause_text clause ++ printed) or (plain_clause clause) printed
@@ -124,11 +124,11 @@ connector_printed : (or : Bool) → (is_connector or (connector or) ≡ true) ×
 connector_printed true = (refl, refl)
 connector_printed false = (refl, refl)
 
-record PrintsClauses (or : Bool) (first : Clause) (more : List Clause) : Type 0 where
-  spells : SpellsClauses (clause_text first ++ closing more) or (plain_clause first) (map plain_clause more)
-  prints : Prints (clause_text first ++ closing more)
+pub record PrintsClauses (or : Bool) (first : Clause) (more : List Clause) : Type 0 where
+  pub spells : SpellsClauses (clause_text first ++ closing more) or (plain_clause first) (map plain_clause more)
+  pub prints : Prints (clause_text first ++ closing more)
 
-clauses_printed : (text : List ℕ) (or : Bool) (first : Clause) (more : List Clause) → SpellsClauses text or first more → PrintsClauses or first more
+pub clauses_printed : (text : List ℕ) (or : Bool) (first : Clause) (more : List Clause) → SpellsClauses text or first more → PrintsClauses or first more
 clauses_printed text or first [] h = record {
   spells = stands_printed text or first (41 ∷ []) (41 ∷ []) h;
   prints = prints_both (clause_text first) (41 ∷ []) (clause_printed h.written first h.spells).prints refl;

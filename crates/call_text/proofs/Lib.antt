@@ -2,6 +2,7 @@ pub mod Again
 pub mod ClausesAgain
 pub mod FormsPrinted
 pub mod LinesAgain
+pub mod LinesPrinted
 pub mod Loops
 pub mod Runs
 pub mod SsasAgain
