@@ -1,6 +1,6 @@
 -- A line as it is read again from its printed form: a hexadecimal value of printable bytes alone is a text.
-use Rattle.std.specs.Prelude.{ℕ, if◌then◌else◌, List, map, Option, Some, None}
-use Rattle.std.specs.List.{list_all}
+use Rattle.std.specs.Prelude.{◌≡◌, ℕ, false, if◌then◌else◌, List, map, Option, Some, None}
+use Rattle.std.specs.List.{list_all, AllByRecursion}
 use Rattle.call_text.specs.declared.line.Value.{Value}
 use Rattle.call_text.specs.declared.line.Value.TheVariants.{Text, Hex}
 use Rattle.call_text.specs.declared.line.Clause.{Clause}
@@ -33,3 +33,25 @@ plain_line (lines.Call call) = lines.Call (plain_call call)
 plain_line (lines.Open request) = lines.Open request
 plain_line (lines.Reorg part command) = lines.Reorg part command
 plain_line (lines.Bad cause) = lines.Bad cause
+
+-- no hexadecimal value has printable bytes alone
+abbrev pub IsPlainValue : Value → Type 0
+IsPlainValue (Text bytes) = Unit {0}
+IsPlainValue (Hex bytes) = list_all is_printable bytes ≡ false
+
+abbrev pub IsPlainClause : Clause → Type 0
+IsPlainClause clause = IsPlainValue clause.value
+
+abbrev pub IsPlainSsa : Ssa → Type 0
+IsPlainSsa ssa = AllByRecursion IsPlainClause ssa.clauses
+
+abbrev pub IsPlainGiven : Option Value → Type 0
+IsPlainGiven None = Unit {0}
+IsPlainGiven (Some value) = IsPlainValue value
+
+abbrev pub IsPlain : Line → Type 0
+IsPlain lines.Silent = Unit {0}
+IsPlain (lines.Call call) = AllByRecursion IsPlainSsa call.ssas × IsPlainGiven call.content
+IsPlain (lines.Open request) = Unit {0}
+IsPlain (lines.Reorg part command) = Unit {0}
+IsPlain (lines.Bad cause) = Unit {0}

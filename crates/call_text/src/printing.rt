@@ -1,8 +1,11 @@
 // Lines as text.
-ghost use Rattle.std.specs.Prelude.{◌≡◌, ◌++◌, OnOk, IfOk};
+ghost use Rattle.std.specs.Prelude.{◌≡◌, ◌≤◌, ◌++◌, ℕ, List, length, OnOk, IfOk};
 ghost use Rattle.std.specs.List.{list_all, flat_map};
 ghost use Rattle.call_text.specs.Printing.{printed_value};
 ghost use Rattle.call_text.specs.Printed.{is_sign, operator_text, bytes_of, clause_text, connector, joined_clause, clauses_text, codes_text, ssa_text, next_ssa, given_text, call_text, index_text, open_text, command_word, count_text, reorg_text, printed_line, HasForm};
+ghost use Rattle.call_text.specs.Plain.{plain_line, IsPlain};
+ghost use Rattle.call_text.specs.Spelling.{Spells};
+ghost use Rattle.call_text.specs.Reading.{line_of};
 
 use crate::values::{put_number, put_value};
 use crate::{Call, Clause, Command, Line, Open, Ssa, Value};
@@ -189,8 +192,7 @@ fn put_reorg(alloc: Global, out: &mut Bytes, part: Name8, command: Command) -> R
     put_count(alloc, out, command)
 }
 
-/// The printed form of a line. A silent line's is empty.
-pub fn print_line(alloc: Global, line: &Line) -> Result<Bytes, Memory>
+fn printed(alloc: Global, line: &Line) -> Result<Bytes, Memory>
     requires { HasForm line.now }
     ensures { IfOk result (λ text. text ≡ printed_line line.now) }
 {
@@ -203,4 +205,18 @@ pub fn print_line(alloc: Global, line: &Line) -> Result<Bytes, Memory>
         Line::Bad(_) => unreachable!(),
     }
     Ok(out)
+}
+
+/// The printed form of a line. A silent line's is empty.
+pub fn print_line(alloc: Global, line: &Line) -> Result<Bytes, Memory>
+    requires { HasForm line.now }
+    ensures exact { IfOk result (λ text. text ≡ printed_line line.now) }
+    // Where it isn't too long it is read as the line that it came from, but that a hexadecimal value of
+    // printable bytes alone is a text.
+    ensures again { (text : List ℕ) → Spells text line.now → length (printed_line line.now) ≤ 8192 → line_of (printed_line line.now) ≡ plain_line line.now }
+    // That line prints the same, and is the very line where there is no such value.
+    ensures same { printed_line (plain_line line.now) ≡ printed_line line.now }
+    ensures kept { IsPlain line.now → plain_line line.now ≡ line.now }
+{
+    printed(alloc, line)
 }
