@@ -45,10 +45,15 @@ word_print : (op : List ℕ) → 0 < length op → list_all is_letter op ≡ tru
 word_print op some all printed =
     let same : map upper op ≡ op = map_same op (letters_bytes op all) in
     let word : SpellsOperatorWord (32 ∷ op ++ 32 ∷ []) op = record {
-      before = 32 ∷ []; word = op; after = 32 ∷ []; whole = refl;
+      before = 32 ∷ [];
+      word = op;
+      after = 32 ∷ [];
+      whole = refl;
       before_is = record { blanks = refl; some = omega arith };
       after_is = record { blanks = refl; some = omega arith };
-      some = some; all = rw same all; printed = printed ∙ ap printed_operator (sym same);
+      some = some;
+      all = rw same all;
+      printed = printed ∙ ap printed_operator (sym same);
     } in
     record {
       spells = rw (letters_no_signs op some all) (inr word);
@@ -104,8 +109,13 @@ clause_printed text clause h =
     let value = printed_value (bytes_of clause.value) in
     record {
       spells = record {
-        field = clause.field; op = operator_text clause.op; value = value; whole = append_assoc clause.field (operator_text clause.op) value;
-        field_is = name_spells h.field clause.field h.field_is; op_is = o.spells; value_is = v.spells;
+        field = clause.field;
+        op = operator_text clause.op;
+        value = value;
+        whole = append_assoc clause.field (operator_text clause.op) value;
+        field_is = name_spells h.field clause.field h.field_is;
+        op_is = o.spells;
+        value_is = v.spells;
       };
       prints = prints_both (clause.field ++ operator_text clause.op) value (prints_both clause.field (operator_text clause.op) (name_prints h.field clause.field h.field_is) o.prints) v.prints;
     }
@@ -116,8 +126,14 @@ closing more = flat_map joined_clause more ++ 41 ∷ []
 
 stands_printed : (text : List ℕ) (or : Bool) (clause : Clause) (rest printed : List ℕ) → StandsBefore text or clause rest → StandsBefore (clause_text clause ++ printed) or (plain_clause clause) printed
 stands_printed text or clause rest printed h = record {
-  before = []; written = clause_text clause; after = []; whole = refl; before_is = refl; after_is = refl;
-  spells = (clause_printed h.written clause h.spells).spells; joined = h.joined;
+  before = [];
+  written = clause_text clause;
+  after = [];
+  whole = refl;
+  before_is = refl;
+  after_is = refl;
+  spells = (clause_printed h.written clause h.spells).spells;
+  joined = h.joined;
 }
 
 connector_printed : (or : Bool) → (is_connector or (connector or) ≡ true) × (is_printable (connector or) ≡ true)
@@ -139,7 +155,7 @@ clauses_printed text or first (next ∷ more) h =
     let regrouped : closing (next ∷ more) ≡ connector next.or ∷ (clause_text next ++ closing more) = ap (λ (t : List ℕ). connector next.or ∷ t) (append_assoc (clause_text next) (flat_map joined_clause more) (41 ∷ [])) in
     record {
       spells = subst (λ (t : List ℕ). SpellsClauses (clause_text first ++ t) or (plain_clause first) (map plain_clause (next ∷ more))) (sym regrouped)
-        (connector next.or, clause_text next ++ closing more, sign.0, stands_printed text or first (h.0 ∷ h.1) (connector next.or ∷ (clause_text next ++ closing more)) h.3, inner.spells);
+          (connector next.or, clause_text next ++ closing more, sign.0, stands_printed text or first (h.0 ∷ h.1) (connector next.or ∷ (clause_text next ++ closing more)) h.3, inner.spells);
       prints = subst (λ (t : List ℕ). Prints (clause_text first ++ t)) (sym regrouped)
-        (prints_both (clause_text first) (connector next.or ∷ (clause_text next ++ closing more)) (clause_printed h.3.written first h.3.spells).prints (rw sign.1 inner.prints));
+          (prints_both (clause_text first) (connector next.or ∷ (clause_text next ++ closing more)) (clause_printed h.3.written first h.3.spells).prints (rw sign.1 inner.prints));
     }

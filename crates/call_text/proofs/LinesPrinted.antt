@@ -65,9 +65,13 @@ ssa_printed text ssa h =
     let q = qualification_printed h.clauses ssa.clauses h.clauses_is in
     record {
       spells = record {
-        seg = ssa.seg; code = codes_text ssa.codes; clauses = clauses_text ssa.clauses;
+        seg = ssa.seg;
+        code = codes_text ssa.codes;
+        clauses = clauses_text ssa.clauses;
         whole = append_assoc ssa.seg (codes_text ssa.codes) (clauses_text ssa.clauses);
-        seg_is = name_spells h.seg ssa.seg h.seg_is; code_is = codes_spell h.code ssa.codes h.code_is; clauses_is = q.spells;
+        seg_is = name_spells h.seg ssa.seg h.seg_is;
+        code_is = codes_spell h.code ssa.codes h.code_is;
+        clauses_is = q.spells;
       };
       prints = prints_both (ssa.seg ++ codes_text ssa.codes) (clauses_text ssa.clauses) (prints_both ssa.seg (codes_text ssa.codes) (name_prints h.seg ssa.seg h.seg_is) (codes_print h.code ssa.codes h.code_is)) q.prints;
     }
@@ -115,9 +119,18 @@ call_printed text call h =
     let content = given_text call.content in
     record {
       spells = record {
-        session = call.session; room = 32 ∷ []; func = call.func; ssas = ssas; content = content; whole = simp append_assoc;
-        session_is = name_spells h.session call.session h.session_is; free = h.free; room_is = blank;
-        func_is = word_spells h.func call.func h.func_is; ssas_is = s.spells; content_is = g.spells;
+        session = call.session;
+        room = 32 ∷ [];
+        func = call.func;
+        ssas = ssas;
+        content = content;
+        whole = simp append_assoc;
+        session_is = name_spells h.session call.session h.session_is;
+        free = h.free;
+        room_is = blank;
+        func_is = word_spells h.func call.func h.func_is;
+        ssas_is = s.spells;
+        content_is = g.spells;
       };
       prints = prints_both (call.session ++ 32 ∷ call.func ++ ssas) content (prints_both (call.session ++ 32 ∷ call.func) ssas (prints_both call.session (32 ∷ call.func) (name_prints h.session call.session h.session_is) (word_prints h.func call.func h.func_is)) s.prints) g.prints;
     }
@@ -138,9 +151,20 @@ open_printed text request h =
     let index = index_text request.index in
     record {
       spells = record {
-        word = codes "PCB"; first = 32 ∷ []; session = request.session; second = 32 ∷ []; options = request.options; index = index; whole = simp append_assoc;
-        word_is = record { spelled = refl; is = refl }; first_is = blank; session_is = name_spells h.session request.session h.session_is; free = h.free;
-        second_is = blank; options_is = word_spells h.options request.options h.options_is; index_is = index_spell h.index request.index h.index_is;
+        word = codes "PCB";
+        first = 32 ∷ [];
+        session = request.session;
+        second = 32 ∷ [];
+        options = request.options;
+        index = index;
+        whole = simp append_assoc;
+        word_is = record { spelled = refl; is = refl };
+        first_is = blank;
+        session_is = name_spells h.session request.session h.session_is;
+        free = h.free;
+        second_is = blank;
+        options_is = word_spells h.options request.options h.options_is;
+        index_is = index_spell h.index request.index h.index_is;
       };
       prints = prints_both (codes "PCB " ++ request.session ++ 32 ∷ request.options) index (prints_both (codes "PCB " ++ request.session) (32 ∷ request.options) (prints_both (codes "PCB ") request.session refl (name_prints h.session request.session h.session_is)) (word_prints h.options request.options h.options_is)) (index_print h.index request.index h.index_is);
     }
@@ -211,9 +235,21 @@ reorg_printed text part command h =
     let c = count_printed h.count command h.count_is in
     record {
       spells = record {
-        word = codes "REORG"; first = 32 ∷ []; verb = verb; second = 32 ∷ []; name = part; count = count; behind = []; whole = simp (append_assoc, append-nil);
-        word_is = record { spelled = refl; is = refl }; first_is = blank; verb_is = verb_spells command; second_is = blank;
-        name_is = name_spells h.name part h.name_is; count_is = c.spells; behind_is = refl;
+        word = codes "REORG";
+        first = 32 ∷ [];
+        verb = verb;
+        second = 32 ∷ [];
+        name = part;
+        count = count;
+        behind = [];
+        whole = simp (append_assoc, append-nil);
+        word_is = record { spelled = refl; is = refl };
+        first_is = blank;
+        verb_is = verb_spells command;
+        second_is = blank;
+        name_is = name_spells h.name part h.name_is;
+        count_is = c.spells;
+        behind_is = refl;
       };
       prints = prints_both (codes "REORG " ++ verb ++ 32 ∷ part) count (prints_both (codes "REORG " ++ verb) (32 ∷ part) (prints_both (codes "REORG ") verb refl (name_prints verb verb (verb_spells command))) (name_prints h.name part h.name_is)) c.prints;
     }

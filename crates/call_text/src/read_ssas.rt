@@ -52,11 +52,7 @@ fn clause_and_connector_of(
 }
 
 /// The clauses behind an opening parenthesis, of which there are at most `most`.
-fn clauses_of(
-    alloc: Global,
-    most: usize,
-    text: &[u8],
-) -> Result<(List<Clause>, &[u8]), ReadError>
+fn clauses_of(alloc: Global, most: usize, text: &[u8]) -> Result<(List<Clause>, &[u8]), ReadError>
     ensures { Gives (λ x. (x.0, x.1.now)) result (clauses_at most (Some false) text.now) }
 {
     let mut clauses = List::new(alloc);

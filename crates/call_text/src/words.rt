@@ -179,7 +179,11 @@ fn count(digits: &[u8]) -> Option<u16>
         return None;
     }
     let number = number_of(digits);
-    if 1 <= number && number <= 1000 { Some(number) } else { None }
+    if 1 <= number && number <= 1000 {
+        Some(number)
+    } else {
+        None
+    }
 }
 
 #[tactic(auto, unfolding(crate::specs::Reading::count_at))]
