@@ -1,5 +1,6 @@
 pub mod Again
 pub mod ClausesAgain
+pub mod ClausesTaken
 pub mod FormsPrinted
 pub mod LinesAgain
 pub mod LinesPrinted
@@ -7,4 +8,5 @@ pub mod Loops
 pub mod Runs
 pub mod SsasAgain
 pub mod Stopping
+pub mod Taken
 pub mod ValuesPrinted
