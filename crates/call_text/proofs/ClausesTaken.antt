@@ -11,7 +11,8 @@ use Rattle.call_text.specs.declared.fault.Fault.TheVariants as faults
 use Rattle.call_text.specs.declared.line.Value.{Value}
 use Rattle.call_text.specs.declared.line.Clause.{Clause}
 use Rattle.call_text.specs.declared.line.Ssa.{Ssa}
-use Rattle.call_text.specs.Words.{is_blank, past, in_word, is_letter}
+use Rattle.call_text.specs.Words.{is_blank, past, in_word, is_letter, is_word}
+use Rattle.call_text.specs.Printing.{is_printable}
 use Rattle.call_text.specs.Printed.{is_sign}
 use Rattle.call_text.specs.Spelling.{IsGap, IsRoom, SpellsName, SpellsWord, SpellsValue, SpellsSigns, SpellsOperatorWord, SpellsOperator, SpellsClause, StandsBefore, is_connector, SpellsClauses, SpellsQualification, SpellsCodes, SpellsSsa, SpellsSsas}
 use Rattle.call_text.specs.Reading.{◌>>=◌, name_at, word_at, value_at, printed_operator, begins_blank, operator_word_at, operator_at, clause_at, connector_at, clause_and_connector_at, clauses_at, codes_at, begins_with, behind, qualification_at, ssa_at, begins_word, begins_ssa, ssas_at}
@@ -181,3 +182,154 @@ record ClausesTaken (or : Bool) (text : List ℕ) (clauses : List Clause) (rest 
   spells : SpellsClauses inside or first more
   first_is : first.or ≡ or
   prints : Prints rest
+
+clauses_none : (n : ℕ) (text : List ℕ) → clauses_at n None text ≡ Ok ([], text)
+unfolding clauses_at
+clauses_none zero text = refl
+clauses_none (suc n) text = refl
+
+abbrev ReadClauses : Type 0
+ReadClauses = List Clause × List ℕ
+
+abbrev some_clauses : List Clause → List ℕ → ReadClauses
+some_clauses clauses rest = (clauses, rest)
+
+clauses_grow : (n : ℕ) (or : Bool) (text : List ℕ) (clause : Clause) (next : Option Bool) (behind_it : List ℕ) (more : List Clause) (rest : List ℕ) → JoinedTaken or text clause next behind_it → clauses_at n next behind_it ≡ Ok (more, rest) → ((o : Bool) → clauses_at n (Some o) behind_it ≡ Ok (more, rest) → ClausesTaken o behind_it more rest) → ClausesTaken or text (clause ∷ more) rest
+clauses_grow n or text clause None behind_it more rest j e further =
+    let made : some_clauses [] behind_it ≡ some_clauses more rest = ok_is (some_clauses [] behind_it) (some_clauses more rest) (sym (clauses_none n behind_it) ∙ e) in
+    let sign_is : j.sign ≡ 41 = j.closes refl in
+    let whole : text ≡ (j.front ++ 41 ∷ []) ++ behind_it = j.whole ∙ ap (λ (s : ℕ). j.front ++ (s ∷ behind_it)) sign_is ∙ sym (append_assoc j.front (41 ∷ []) behind_it) in
+    let stands = j.stands (41 ∷ []) in
+    subst (λ (x : ReadClauses). ClausesTaken or text (clause ∷ x.0) x.1) made (record { first = clause; more = []; is = refl; inside = j.front ++ 41 ∷ []; whole = whole; spells = stands; first_is = stands.joined; prints = j.prints })
+clauses_grow n or text clause (Some o) behind_it more rest j e further =
+    let ih = further o e in
+    let sign_is : is_connector ih.first.or j.sign ≡ true = subst (λ (b : Bool). is_connector b j.sign ≡ true) (sym ih.first_is) (j.joins o refl) in
+    let spelled : SpellsClauses ih.inside ih.first.or ih.first ih.more = subst (λ (b : Bool). SpellsClauses ih.inside b ih.first ih.more) (sym ih.first_is) ih.spells in
+    let stands = j.stands (j.sign ∷ ih.inside) in
+    record {
+      first = clause; more = ih.first ∷ ih.more; is = ap (λ (m : List Clause). clause ∷ m) ih.is; inside = j.front ++ (j.sign ∷ ih.inside);
+      whole = j.whole ∙ ap (λ (t : List ℕ). j.front ++ (j.sign ∷ t)) ih.whole ∙ sym (append_assoc j.front (j.sign ∷ ih.inside) rest);
+      spells = (j.sign, ih.inside, sign_is, stands, spelled); first_is = stands.joined; prints = ih.prints;
+    }
+
+clauses_taken : (n : ℕ) (or : Bool) (text : List ℕ) (clauses : List Clause) (rest : List ℕ) → Prints text → clauses_at n (Some or) text ≡ Ok (clauses, rest) → ClausesTaken or text clauses rest
+unfolding clauses_at
+clauses_taken zero or text clauses rest prints e = absurd cc
+clauses_taken (suc n) or text clauses rest prints e =
+    let a = bind_ok (clause_and_connector_at or text) (λ first. clauses_at n first.1 first.2 >>= λ more. Ok (first.0 ∷ more.0, more.1)) (clauses, rest) e in
+    let b = bind_ok (clauses_at n a.0.1 a.0.2) (λ more. Ok (a.0.0 ∷ more.0, more.1)) (clauses, rest) a.2 in
+    let made : some_clauses (a.0.0 ∷ b.0.0) b.0.1 ≡ some_clauses clauses rest = ok_is (some_clauses (a.0.0 ∷ b.0.0) b.0.1) (some_clauses clauses rest) b.2 in
+    let j = joined_taken or text a.0.0 a.0.1 a.0.2 prints a.1 in
+    subst (λ (x : ReadClauses). ClausesTaken or text x.0 x.1) made (clauses_grow n or text a.0.0 a.0.1 a.0.2 b.0.0 b.0.1 j b.1 (λ o h. clauses_taken n o a.0.2 b.0.0 b.0.1 j.prints h))
+
+-- ---- the parts of an SSA
+
+begins_is : (byte : ℕ) (text : List ℕ) → begins_with byte text ≡ true → text ≡ byte ∷ behind text
+begins_is byte [] h = absurd cc
+begins_is byte (b ∷ text) h = ap (λ (x : ℕ). x ∷ text) (eqb-true b byte h)
+
+in_parentheses : (text : List ℕ) (clauses : List Clause) (rest : List ℕ) → past is_blank text ≡ 40 ∷ behind (past is_blank text) → ClausesTaken false (behind (past is_blank text)) clauses rest → Taken (λ w. SpellsQualification w clauses) text rest
+in_parentheses text clauses rest opens c =
+    let gap = take_while is_blank text in
+    let written = gap ++ 40 ∷ c.inside in
+    let whole : text ≡ written ++ rest = parts_of is_blank text ∙ ap (λ (t : List ℕ). gap ++ t) (opens ∙ ap (λ (t : List ℕ). 40 ∷ t) c.whole) ∙ sym (append_assoc gap (40 ∷ c.inside) rest) in
+    subst (λ (cs : List Clause). Taken (λ w. SpellsQualification w cs) text rest) (sym c.is) (record { written = written; whole = whole; spells = (gap, c.inside, blanks_of text, c.spells, refl); prints = c.prints })
+
+qualification_taken : (text : List ℕ) (clauses : List Clause) (rest : List ℕ) → Prints text → qualification_at text ≡ Ok (clauses, rest) → Taken (λ w. SpellsQualification w clauses) text rest
+unfolding qualification_at
+qualification_taken text clauses rest prints e = by_case (begins_with 40 (past is_blank text)) refl e
+  where
+    by_case : (v : Bool) → begins_with 40 (past is_blank text) ≡ v → cond v (clauses_at (length text) (Some false) (behind (past is_blank text))) (Ok (some_clauses [] text)) ≡ Ok (some_clauses clauses rest) → Taken (λ w. SpellsQualification w clauses) text rest
+    by_case true is h =
+        let opens = begins_is 40 (past is_blank text) is in
+        let inner : Prints (behind (past is_blank text)) = (prints_parts (40 ∷ []) (behind (past is_blank text)) (past is_blank text) opens (past_prints text prints)).1 in
+        in_parentheses text clauses rest opens (clauses_taken (length text) false (behind (past is_blank text)) clauses rest inner h)
+    by_case false is h =
+        let made : some_clauses [] text ≡ some_clauses clauses rest = ok_is (some_clauses [] text) (some_clauses clauses rest) h in
+        subst (λ (x : ReadClauses). Taken (λ w. SpellsQualification w x.0) text x.1) made (record { written = []; whole = refl; spells = refl; prints = prints })
+
+abbrev ReadWord : Type 0
+ReadWord = List ℕ × List ℕ
+
+abbrev some_word : List ℕ → List ℕ → ReadWord
+some_word word rest = (word, rest)
+
+starred : (tail code rest : List ℕ) → WordTaken (λ w. SpellsWord w code) tail rest → Taken (λ w. SpellsCodes w code) (42 ∷ tail) rest
+starred tail [] rest t = let no_word : is_word [] ≡ true = t.taken.spells.is in absurd cc
+starred tail (c ∷ code) rest t = record { written = 42 ∷ t.taken.written; whole = ap (λ (x : List ℕ). 42 ∷ x) t.taken.whole; spells = (t.taken.written, t.taken.spells, refl); prints = t.taken.prints }
+
+codes_taken : (text code rest : List ℕ) → Prints text → codes_at text ≡ Ok (code, rest) → Taken (λ w. SpellsCodes w code) text rest
+unfolding codes_at
+codes_taken [] code rest prints e =
+    let made : some_word [] [] ≡ some_word code rest = ok_is (some_word [] []) (some_word code rest) e in
+    subst (λ (x : ReadWord). Taken (λ w. SpellsCodes w x.0) [] x.1) made (record { written = []; whole = refl; spells = refl; prints = refl })
+codes_taken (b ∷ tail) code rest prints e = by_case (b == 42) refl e
+  where
+    by_case : (v : Bool) → (b == 42) ≡ v → cond v (word_at tail) (Ok (some_word [] (b ∷ tail))) ≡ Ok (some_word code rest) → Taken (λ w. SpellsCodes w code) (b ∷ tail) rest
+    by_case true is h =
+        let inner = both (is_printable b) (list_all is_printable tail) prints in
+        subst (λ (x : ℕ). Taken (λ w. SpellsCodes w code) (x ∷ tail) rest) (sym (eqb-true b 42 is)) (starred tail code rest (word_taken tail code rest inner.1 h))
+    by_case false is h =
+        let made : some_word [] (b ∷ tail) ≡ some_word code rest = ok_is (some_word [] (b ∷ tail)) (some_word code rest) h in
+        subst (λ (x : ReadWord). Taken (λ w. SpellsCodes w x.0) (b ∷ tail) x.1) made (record { written = []; whole = refl; spells = refl; prints = prints })
+
+abbrev ReadSsa : Type 0
+ReadSsa = Ssa × List ℕ
+
+abbrev some_ssa : Ssa → List ℕ → ReadSsa
+some_ssa ssa rest = (ssa, rest)
+
+ssa_taken : (text : List ℕ) (ssa : Ssa) (rest : List ℕ) → Prints text → ssa_at text ≡ Ok (ssa, rest) → Taken (λ w. SpellsSsa w ssa) text rest
+unfolding ssa_at
+ssa_taken text ssa rest prints e =
+    let a = bind_ok (name_at text) (λ seg. codes_at seg.1 >>= λ code. qualification_at code.1 >>= λ clauses. Ok (record { seg = seg.0; codes = code.0; clauses = clauses.0 }, clauses.1)) (ssa, rest) e in
+    let b = bind_ok (codes_at a.0.1) (λ code. qualification_at code.1 >>= λ clauses. Ok (record { seg = a.0.0; codes = code.0; clauses = clauses.0 }, clauses.1)) (ssa, rest) a.2 in
+    let c = bind_ok (qualification_at b.0.1) (λ clauses. Ok (record { seg = a.0.0; codes = b.0.0; clauses = clauses.0 }, clauses.1)) (ssa, rest) b.2 in
+    let seg = name_taken text a.0.0 a.0.1 prints a.1 in
+    let code = codes_taken a.0.1 b.0.0 b.0.1 seg.taken.prints b.1 in
+    let clauses = qualification_taken b.0.1 c.0.0 c.0.1 code.prints c.1 in
+    let written = seg.taken.written ++ (code.written ++ clauses.written) in
+    let whole : text ≡ written ++ c.0.1 = seg.taken.whole ∙ ap (λ (t : List ℕ). seg.taken.written ++ t) (code.whole ∙ ap (λ (t : List ℕ). code.written ++ t) clauses.whole) ∙ simp append_assoc in
+    let read : Ssa = record { seg = a.0.0; codes = b.0.0; clauses = c.0.0 } in
+    let spells : SpellsSsa written read = record { seg = seg.taken.written; code = code.written; clauses = clauses.written; whole = refl; seg_is = seg.taken.spells; code_is = code.spells; clauses_is = clauses.spells } in
+    let made : some_ssa read c.0.1 ≡ some_ssa ssa rest = ok_is (some_ssa read c.0.1) (some_ssa ssa rest) c.2 in
+    subst (λ (x : ReadSsa). Taken (λ w. SpellsSsa w x.0) text x.1) made (record { written = written; whole = whole; spells = spells; prints = clauses.prints })
+
+abbrev ReadSsas : Type 0
+ReadSsas = List Ssa × List ℕ
+
+abbrev some_ssas : List Ssa → List ℕ → ReadSsas
+some_ssas ssas rest = (ssas, rest)
+
+abbrev ssas_read : List Ssa → List ℕ → Result ReadSsas Fault
+ssas_read ssas rest = Ok (ssas, rest)
+
+no_ssas : (text : List ℕ) (ssas : List Ssa) (rest : List ℕ) → Prints text → ssas_read [] text ≡ ssas_read ssas rest → Taken (λ w. SpellsSsas w ssas) text rest
+no_ssas text ssas rest prints e =
+    let made : some_ssas [] text ≡ some_ssas ssas rest = ok_is (some_ssas [] text) (some_ssas ssas rest) e in
+    subst (λ (x : ReadSsas). Taken (λ w. SpellsSsas w x.0) text x.1) made (record { written = []; whole = refl; spells = refl; prints = prints })
+
+more_ssas : (text : List ℕ) (ssa : Ssa) (behind_it : List ℕ) (ssas : List Ssa) (rest : List ℕ) → begins_blank text ≡ true → Taken (λ w. SpellsSsa w ssa) (past is_blank text) behind_it → Taken (λ w. SpellsSsas w ssas) behind_it rest → Taken (λ w. SpellsSsas w (ssa ∷ ssas)) text rest
+more_ssas text ssa behind_it ssas rest blank first more =
+    let room = take_while is_blank text in
+    record {
+      written = room ++ (first.written ++ more.written);
+      whole = parts_of is_blank text ∙ ap (λ (t : List ℕ). room ++ t) (first.whole ∙ ap (λ (t : List ℕ). first.written ++ t) more.whole) ∙ simp append_assoc;
+      spells = (room, first.written, more.written, begins_room text blank, first.spells, more.spells, refl);
+      prints = more.prints;
+    }
+
+pub ssas_taken : (n : ℕ) (text : List ℕ) (ssas : List Ssa) (rest : List ℕ) → Prints text → ssas_at n text ≡ Ok (ssas, rest) → Taken (λ w. SpellsSsas w ssas) text rest
+unfolding ssas_at
+ssas_taken zero text ssas rest prints e = no_ssas text ssas rest prints e
+ssas_taken (suc n) text ssas rest prints e = by_case (begins_ssa text) refl (λ (t : List ℕ) (s : List Ssa) (r : List ℕ) p h. ssas_taken n t s r p h) e
+  where
+    by_case : (v : Bool) → begins_ssa text ≡ v → ((t : List ℕ) (s : List Ssa) (r : List ℕ) → Prints t → ssas_at n t ≡ Ok (s, r) → Taken (λ w. SpellsSsas w s) t r) → cond v (ssa_at (past is_blank text) >>= λ ssa. onto ssa.0 (ssas_at n ssa.1)) (Ok (some_ssas [] text)) ≡ Ok (some_ssas ssas rest) → Taken (λ w. SpellsSsas w ssas) text rest
+    by_case true is further h =
+        let a = bind_ok (ssa_at (past is_blank text)) (λ ssa. onto ssa.0 (ssas_at n ssa.1)) (some_ssas ssas rest) h in
+        let b = bind_ok (ssas_at n a.0.1) (λ more. Ok (some_ssas (a.0.0 ∷ more.0) more.1)) (some_ssas ssas rest) a.2 in
+        let first = ssa_taken (past is_blank text) a.0.0 a.0.1 (past_prints text prints) a.1 in
+        let more = further a.0.1 b.0.0 b.0.1 first.prints b.1 in
+        let made : some_ssas (a.0.0 ∷ b.0.0) b.0.1 ≡ some_ssas ssas rest = ok_is (some_ssas (a.0.0 ∷ b.0.0) b.0.1) (some_ssas ssas rest) b.2 in
+        subst (λ (x : ReadSsas). Taken (λ w. SpellsSsas w x.0) text x.1) made (more_ssas text a.0.0 a.0.1 b.0.0 b.0.1 (both (begins_blank text) (begins_word (past is_blank text)) is).0 first more)
+    by_case false is further h = no_ssas text ssas rest prints h

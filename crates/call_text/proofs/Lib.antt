@@ -4,6 +4,7 @@ pub mod ClausesTaken
 pub mod FormsPrinted
 pub mod LinesAgain
 pub mod LinesPrinted
+pub mod LinesTaken
 pub mod Loops
 pub mod Runs
 pub mod SsasAgain
