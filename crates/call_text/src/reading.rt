@@ -2,6 +2,7 @@
 ghost use Rattle.std.specs.Prelude.{◌≡◌, IfOk, length};
 ghost use Rattle.std.specs.List.{list_all};
 ghost use Rattle.call_text.specs.Printing.{is_printable};
+ghost use Rattle.call_text.specs.Printed.{HasForm};
 ghost use Rattle.call_text.specs.Words.{past, in_word};
 ghost use Rattle.call_text.specs.declared.line.Line.{Line};
 ghost use Rattle.call_text.specs.Spelling.{Spells};
@@ -198,6 +199,8 @@ fn read(alloc: Global, line: &[u8]) -> Result<Line, Memory>
 
 /// Reads a line of a script, without its end. Each text is one line: silent, a form, or bad with its cause.
 pub fn read_line(alloc: Global, line: &[u8]) -> Result<Line, Memory>
+    // What is read is spelled so.
+    ensures found { IfOk result (λ read. HasForm read → Spells line.now read) }
     // What is spelled so is read.
     ensures only { (form : Line) → Spells line.now form → IfOk result (λ read. read ≡ form) }
     // Which cause it is, where the text spells no line.
