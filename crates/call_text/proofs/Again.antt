@@ -1,20 +1,17 @@
 -- What is spelled is read: names, words, values and operators.
-use Rattle.std.proofs.Common.{◌≡◌, ◌≢◌, ℕ, suc, ◌+◌, ◌-◌, ◌*◌, ◌<◌, ◌≤◌, ◌&&◌, ◌||◌, Bool, true, false, cond, nat_le, ◌==◌, List, [], ◌∷◌, ◌++◌, length, map, take, drop, Result, Ok, Err, refl, sym, ap, subst, ◌∙◌, append_assoc, arith, inl, inr, ◌⊎◌}
-use Rattle.std.specs.List.{list_all, flat_map, prefix_len, take_while}
-use Rattle.std.proofs.lemmas.Bool.{eqb-true, true≢false}
+use Rattle.std.proofs.Common.{◌≡◌, ℕ, suc, ◌<◌, Bool, true, false, ◌==◌, List, [], ◌∷◌, ◌++◌, length, map, Ok, refl, sym, ap, ◌∙◌, append_assoc, arith}
+use Rattle.std.specs.List.{list_all, flat_map}
+use Rattle.std.proofs.lemmas.Bool.{eqb-true}
 use Rattle.std.proofs.lemmas.Bool.Decides.{nat_tests}
-use Rattle.hal_base.specs.Name.{is_name, is_name_byte, upper}
-use Rattle.call_text.specs.declared.fault.Fault.{Fault}
-use Rattle.call_text.specs.declared.fault.Fault.TheVariants as faults
+use Rattle.hal_base.specs.Name.{is_name, upper}
 use Rattle.call_text.specs.declared.line.Value.{Value}
 use Rattle.call_text.specs.declared.line.Value.TheVariants.{Text, Hex}
-use Rattle.call_text.specs.Words.{is_blank, past, in_word, is_letter, is_word}
-use Rattle.call_text.specs.Printing.{doubled, quoted}
-use Rattle.call_text.specs.Printed.{is_sign}
-use Rattle.call_text.specs.Spelling.{IsGap, IsRoom, SpellsName, SpellsWord, SpellsPairs, SpellsHex, SpellsValue, SpellsSigns, SpellsOperatorWord, SpellsOperator}
-use Rattle.call_text.specs.Reading.{◌>>=◌, name_at, word_at, text_at, is_hex, hex_value, close_at, pairs_at, hex_at, value_at, printed_operator, begins_blank, operator_word_at, operator_at}
+use Rattle.call_text.specs.Words.{is_blank, past, in_word, is_word}
+use Rattle.call_text.specs.Printing.{doubled}
+use Rattle.call_text.specs.Spelling.{IsGap, SpellsName, SpellsWord, SpellsPairs, SpellsValue}
+use Rattle.call_text.specs.Reading.{◌>>=◌, name_at, word_at, text_at, pairs_at, hex_at, value_at}
 use Rattle.call_text.proofs.Loops.{onto}
-use Rattle.call_text.proofs.Runs.{both, Stops, run_len, past_run, take_run, name_bytes, word_bytes, letters_bytes, in_words}
+use Rattle.call_text.proofs.Runs.{Stops, past_run, take_run, name_bytes, word_bytes, in_words}
 
 pub name_again : (text name rest : List ℕ) → SpellsName text name → Stops in_word rest → name_at (text ++ rest) ≡ Ok (name, rest)
 unfolding name_at

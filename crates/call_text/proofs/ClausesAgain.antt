@@ -1,21 +1,17 @@
 -- What is spelled is read: operators, clauses and SSAs.
-use Rattle.std.proofs.Common.{◌≡◌, ℕ, zero, suc, ◌+◌, ◌-◌, ◌<◌, ◌≤◌, ◌&&◌, ◌||◌, Bool, true, false, cond, nat_lt, ◌==◌, List, [], ◌∷◌, ◌++◌, length, map, take, drop, Option, Some, None, Result, Ok, Err, refl, sym, ap, subst, ◌∙◌, append_assoc, arith, inl, inr, ◌⊎◌, length-append}
-use Rattle.std.specs.List.{list_all, flat_map, prefix_len, take_while}
-use Rattle.std.proofs.lemmas.Bool.{eqb-true}
+use Rattle.std.proofs.Common.{◌≡◌, ℕ, zero, suc, ◌<◌, ◌≤◌, Bool, true, false, nat_lt, ◌==◌, List, [], ◌∷◌, ◌++◌, length, map, Option, Some, None, Ok, refl, sym, ap, subst, ◌∙◌, append_assoc, arith, inl, inr, length-append}
+use Rattle.std.specs.List.{list_all, take_while}
 use Rattle.std.proofs.lemmas.Bool.Decides.{nat_tests}
 use Rattle.hal_base.specs.Name.{is_name, is_name_byte, upper}
-use Rattle.call_text.specs.declared.fault.Fault.{Fault}
-use Rattle.call_text.specs.declared.line.Value.{Value}
 use Rattle.call_text.specs.declared.line.Clause.{Clause}
-use Rattle.call_text.specs.declared.line.Ssa.{Ssa}
-use Rattle.call_text.specs.Words.{is_blank, past, in_word, is_letter}
+use Rattle.call_text.specs.Words.{is_blank, past, in_word}
 use Rattle.call_text.specs.Printed.{is_sign}
-use Rattle.call_text.specs.Spelling.{IsGap, IsRoom, SpellsName, SpellsWord, SpellsValue, SpellsSigns, SpellsOperatorWord, SpellsOperator, SpellsClause, StandsBefore, is_connector, SpellsClauses, SpellsQualification, SpellsCodes, SpellsSsa, SpellsSsas}
-use Rattle.call_text.specs.Reading.{◌>>=◌, name_at, word_at, value_at, printed_operator, begins_blank, operator_word_at, operator_at, clause_at, connector_at, clause_and_connector_at, clauses_at, codes_at, begins_with, behind, qualification_at, ssa_at, begins_word, begins_ssa, ssas_at}
+use Rattle.call_text.specs.Spelling.{IsRoom, SpellsName, SpellsSigns, SpellsOperatorWord, SpellsOperator, SpellsClause, StandsBefore, is_connector, SpellsClauses}
+use Rattle.call_text.specs.Reading.{begins_blank, operator_word_at, operator_at, clause_at, connector_at, clause_and_connector_at, clauses_at}
 use Rattle.call_text.proofs.Loops.{onto}
-use Rattle.call_text.proofs.Runs.{both, Stops, run_len, past_run, take_run, name_bytes, word_bytes, letters_bytes, in_words}
+use Rattle.call_text.proofs.Runs.{both, Stops, past_run, take_run, name_bytes, letters_bytes, in_words}
 use Rattle.call_text.proofs.Stopping.{other_byte, sign_no_word, word_no_sign, stops_run, stops_gap, stops_room, word_blank, value_no_blank, value_no_sign}
-use Rattle.call_text.proofs.Again.{name_again, word_again, past_gap, value_again}
+use Rattle.call_text.proofs.Again.{name_again, past_gap, value_again}
 
 abbrev pub is_quote : ℕ → Bool
 is_quote b = b == 39

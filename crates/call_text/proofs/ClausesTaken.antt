@@ -1,20 +1,18 @@
 -- What is read is spelled so: operators, clauses and SSAs.
-use Rattle.std.proofs.Common.{◌≡◌, ℕ, zero, suc, ◌+◌, ◌<◌, ◌≤◌, ◌&&◌, ◌||◌, Bool, true, false, cond, nat_lt, ◌==◌, List, [], ◌∷◌, ◌++◌, length, map, Option, Some, None, Result, Ok, Err, refl, sym, ap, subst, ◌∙◌, append_assoc, arith, inl, inr, ◌⊎◌}
-use Rattle.std.specs.List.{list_all, take_while, prefix_len}
+use Rattle.std.proofs.Common.{◌≡◌, ℕ, zero, suc, ◌<◌, ◌&&◌, ◌||◌, Bool, true, false, cond, nat_lt, ◌==◌, List, [], ◌∷◌, ◌++◌, length, map, Option, Some, None, Result, Ok, Err, refl, sym, ap, subst, ◌∙◌, append_assoc, arith, inl, inr}
+use Rattle.std.specs.List.{list_all, take_while}
 use Rattle.std.proofs.lemmas.Bool.{eqb-true}
 use Rattle.std.proofs.lemmas.Bool.Decides.{nat_tests}
-use Rattle.std.proofs.lemmas.List.{append-nil}
 use Rattle.std.proofs.lemmas.List.Sums.{take_while-cons}
 use Rattle.hal_base.specs.Name.{upper}
 use Rattle.call_text.specs.declared.fault.Fault.{Fault}
 use Rattle.call_text.specs.declared.fault.Fault.TheVariants as faults
-use Rattle.call_text.specs.declared.line.Value.{Value}
 use Rattle.call_text.specs.declared.line.Clause.{Clause}
 use Rattle.call_text.specs.declared.line.Ssa.{Ssa}
 use Rattle.call_text.specs.Words.{is_blank, past, in_word, is_letter, is_word}
 use Rattle.call_text.specs.Printing.{is_printable}
 use Rattle.call_text.specs.Printed.{is_sign}
-use Rattle.call_text.specs.Spelling.{IsGap, IsRoom, SpellsName, SpellsWord, SpellsValue, SpellsSigns, SpellsOperatorWord, SpellsOperator, SpellsClause, StandsBefore, is_connector, SpellsClauses, SpellsQualification, SpellsCodes, SpellsSsa, SpellsSsas}
+use Rattle.call_text.specs.Spelling.{IsRoom, SpellsWord, SpellsOperator, SpellsClause, StandsBefore, is_connector, SpellsClauses, SpellsQualification, SpellsCodes, SpellsSsa, SpellsSsas}
 use Rattle.call_text.specs.Reading.{◌>>=◌, name_at, word_at, value_at, printed_operator, begins_blank, operator_word_at, operator_at, clause_at, connector_at, clause_and_connector_at, clauses_at, codes_at, begins_with, behind, qualification_at, ssa_at, begins_word, begins_ssa, ssas_at}
 use Rattle.call_text.proofs.Loops.{onto}
 use Rattle.call_text.proofs.Runs.{both, Stops}
@@ -67,10 +65,15 @@ word_operator_taken text op after stops e =
       written = before ++ (word ++ gap);
       whole = parts_of is_blank text ∙ ap (λ (t : List ℕ). before ++ t) parts ∙ simp append_assoc;
       spells = inr (record {
-        before = before; word = word; after = gap; whole = refl;
+        before = before;
+        word = word;
+        after = gap;
+        whole = refl;
         before_is = room_of text stops (run_begins inner some);
         after_is = begins_room after (ap begins_blank (sym after_is) ∙ outer.1);
-        some = some; all = tests.1; printed = sym op_is;
+        some = some;
+        all = tests.1;
+        printed = sym op_is;
       });
     }
 
@@ -168,9 +171,13 @@ joined_taken or text clause next rest prints e =
         let whole : text ≡ front ++ (k.sign ∷ r) = parts_of is_blank text ∙ ap (λ (x : List ℕ). before ++ x) (t.taken.whole ∙ ap (λ (x : List ℕ). t.taken.written ++ x) (parts_of is_blank behind_c ∙ ap (λ (x : List ℕ). after ++ x) k.whole)) ∙ simp append_assoc in
         let left : Prints (k.sign ∷ r) = (prints_parts front (k.sign ∷ r) text whole prints).1 in
         subst (λ (x : Clause × Option Bool × List ℕ). JoinedTaken or text x.0 x.1 x.2) made (record {
-          front = front; sign = k.sign; whole = whole;
+          front = front;
+          sign = k.sign;
+          whole = whole;
           stands = λ more. record { before = before; written = t.taken.written; after = after; whole = simp append_assoc; before_is = blanks_of text; after_is = blanks_of behind_c; spells = t.taken.spells; joined = t.joined };
-          closes = k.closes; joins = k.joins; prints = (prints_parts (k.sign ∷ []) r (k.sign ∷ r) refl left).1;
+          closes = k.closes;
+          joins = k.joins;
+          prints = (prints_parts (k.sign ∷ []) r (k.sign ∷ r) refl left).1;
         })
 
 record ClausesTaken (or : Bool) (text : List ℕ) (clauses : List Clause) (rest : List ℕ) : Type 0 where
@@ -207,9 +214,14 @@ clauses_grow n or text clause (Some o) behind_it more rest j e further =
     let spelled : SpellsClauses ih.inside ih.first.or ih.first ih.more = subst (λ (b : Bool). SpellsClauses ih.inside b ih.first ih.more) (sym ih.first_is) ih.spells in
     let stands = j.stands (j.sign ∷ ih.inside) in
     record {
-      first = clause; more = ih.first ∷ ih.more; is = ap (λ (m : List Clause). clause ∷ m) ih.is; inside = j.front ++ (j.sign ∷ ih.inside);
+      first = clause;
+      more = ih.first ∷ ih.more;
+      is = ap (λ (m : List Clause). clause ∷ m) ih.is;
+      inside = j.front ++ (j.sign ∷ ih.inside);
       whole = j.whole ∙ ap (λ (t : List ℕ). j.front ++ (j.sign ∷ t)) ih.whole ∙ sym (append_assoc j.front (j.sign ∷ ih.inside) rest);
-      spells = (j.sign, ih.inside, sign_is, stands, spelled); first_is = stands.joined; prints = ih.prints;
+      spells = (j.sign, ih.inside, sign_is, stands, spelled);
+      first_is = stands.joined;
+      prints = ih.prints;
     }
 
 clauses_taken : (n : ℕ) (or : Bool) (text : List ℕ) (clauses : List Clause) (rest : List ℕ) → Prints text → clauses_at n (Some or) text ≡ Ok (clauses, rest) → ClausesTaken or text clauses rest

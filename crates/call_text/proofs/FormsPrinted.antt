@@ -1,23 +1,20 @@
 -- What is printed spells what was printed: operators, clauses, SSAs and lines.
-use Rattle.std.proofs.Common.{◌≡◌, ℕ, zero, suc, ◌+◌, ◌-◌, ◌*◌, ◌^◌, ◌<◌, ◌≤◌, ◌&&◌, ◌||◌, Bool, true, false, cond, nat_le, nat_lt, ◌==◌, List, [], ◌∷◌, ◌++◌, length, map, Option, Some, None, refl, sym, ap, subst, ◌∙◌, append_assoc, arith, inl, inr, ◌⊎◌, codes}
+use Rattle.std.proofs.Common.{◌≡◌, ℕ, ◌<◌, Bool, true, false, cond, List, [], ◌∷◌, ◌++◌, length, map, refl, sym, ap, subst, ◌∙◌, append_assoc, arith, inl, inr, codes}
 use Rattle.std.specs.List.{list_all, flat_map}
 use Rattle.std.specs.Str.{bytes_eq}
-use Rattle.std.specs.Fmt.{decimal}
 use Rattle.std.proofs.lemmas.List.{append-nil}
 use Rattle.std.proofs.lemmas.Bool.Decides.{nat_tests}
-use Rattle.hal_base.specs.Name.{is_name, is_name_byte, upper}
-use Rattle.call_text.specs.declared.line.Value.{Value}
+use Rattle.hal_base.specs.Name.{upper}
 use Rattle.call_text.specs.declared.line.Clause.{Clause}
-use Rattle.call_text.specs.declared.line.Ssa.{Ssa}
-use Rattle.call_text.specs.Words.{is_blank, in_word, is_letter, is_word}
+use Rattle.call_text.specs.Words.{is_letter}
 use Rattle.call_text.specs.Printing.{is_printable, printed_value}
-use Rattle.call_text.specs.Printed.{is_sign, operator_text, bytes_of, clause_text, connector, joined_clause, clauses_text, codes_text, ssa_text, next_ssa, given_text}
-use Rattle.call_text.specs.Plain.{plain_value, plain_clause, plain_ssa, plain_given}
-use Rattle.call_text.specs.Spelling.{IsGap, IsRoom, SpellsName, SpellsWord, SpellsValue, SpellsSigns, SpellsOperatorWord, SpellsOperator, SpellsClause, StandsBefore, is_connector, SpellsClauses, SpellsQualification, SpellsCodes, SpellsSsa, SpellsSsas, SpellsGiven}
+use Rattle.call_text.specs.Printed.{is_sign, operator_text, bytes_of, clause_text, connector, joined_clause}
+use Rattle.call_text.specs.Plain.{plain_clause}
+use Rattle.call_text.specs.Spelling.{SpellsOperatorWord, SpellsOperator, SpellsClause, StandsBefore, is_connector, SpellsClauses}
 use Rattle.call_text.specs.Reading.{printed_operator}
 use Rattle.call_text.proofs.Runs.{both, all_weaker, letters_bytes}
 use Rattle.call_text.proofs.Stopping.{other_byte}
-use Rattle.call_text.proofs.ValuesPrinted.{Prints, prints_both, map_same, name_spells, name_prints, word_spells, word_prints, PrintsValue, value_printed}
+use Rattle.call_text.proofs.ValuesPrinted.{Prints, prints_both, map_same, name_spells, name_prints, value_printed}
 
 -- ---- operators
 

@@ -1,11 +1,9 @@
 -- What is spelled is read: the forms, and the line.
-use Rattle.std.proofs.Common.{◌≡◌, ℕ, suc, ◌+◌, ◌<◌, ◌≤◌, ◌&&◌, ◌||◌, Bool, true, false, cond, nat_lt, ◌==◌, List, [], ◌∷◌, ◌++◌, length, map, drop, Option, Some, None, Result, Ok, Err, refl, sym, ap, subst, ◌∙◌, append_assoc, arith, length-append, codes}
-use Rattle.std.specs.List.{list_all, take_while}
+use Rattle.std.proofs.Common.{◌≡◌, ℕ, ◌<◌, ◌≤◌, ◌||◌, Bool, true, false, nat_lt, ◌==◌, List, [], ◌∷◌, ◌++◌, length, Option, Some, None, Ok, refl, sym, ap, subst, ◌∙◌, append_assoc, arith, length-append, codes}
+use Rattle.std.specs.List.{list_all}
 use Rattle.std.specs.Str.{bytes_eq}
-use Rattle.std.proofs.lemmas.List.{append-nil}
 use Rattle.std.proofs.lemmas.Bool.{le-ltb, eqb-true}
-use Rattle.hal_base.specs.Name.{is_name, is_digit, is_name_byte, upper}
-use Rattle.call_text.specs.declared.fault.Fault.{Fault}
+use Rattle.hal_base.specs.Name.{is_name, is_digit, is_name_byte}
 use Rattle.call_text.specs.declared.line.Call.{Call}
 use Rattle.call_text.specs.declared.line.Open.{Open}
 use Rattle.call_text.specs.declared.line.Command.{Command}
@@ -13,15 +11,14 @@ use Rattle.call_text.specs.declared.line.Command.TheVariants.{Start, Step, Pause
 use Rattle.call_text.specs.declared.line.Line.{Line}
 use Rattle.call_text.specs.declared.line.Line.TheVariants as lines
 use Rattle.call_text.specs.Words.{is_blank, past, in_word, is_word, is_number, is_count, number_of}
-use Rattle.call_text.specs.Printing.{is_printable}
 use Rattle.call_text.specs.Printed.{command_word}
-use Rattle.call_text.specs.Spelling.{IsGap, IsRoom, SpellsName, SpellsWord, SpellsSsas, SpellsGiven, SpellsCall, SpellsIndex, SpellsOpen, SpellsCount, SpellsReorg, SpellsForm, SpellsWhole, Spells}
-use Rattle.call_text.specs.Reading.{◌>>=◌, name_at, word_at, begins_with, begins_word, is_end, ssas_at, given_at, call_at, is_reserved, session_at, index_at, open_at, count_at, plain_command, or_form, command_at, reorg_at, form_at, is_silent, line_or_cause, line_of}
-use Rattle.call_text.proofs.Runs.{both, Stops, past_run, take_run, all_weaker, name_bytes, word_bytes, in_words}
-use Rattle.call_text.proofs.Stopping.{other_byte, stops_run, stops_room, stops_gap, stops_end, word_blank}
+use Rattle.call_text.specs.Spelling.{IsGap, IsRoom, SpellsName, SpellsWord, SpellsSsas, SpellsGiven, SpellsIndex, SpellsCount, SpellsForm, SpellsWhole, Spells}
+use Rattle.call_text.specs.Reading.{begins_with, begins_word, call_at, is_reserved, session_at, index_at, open_at, count_at, command_at, reorg_at, form_at, is_silent, line_of}
+use Rattle.call_text.proofs.Runs.{both, Stops, past_run, take_run, all_weaker, word_bytes, in_words}
+use Rattle.call_text.proofs.Stopping.{other_byte, stops_run, stops_room, stops_end, word_blank}
 use Rattle.call_text.proofs.Again.{name_again, word_again, past_gap}
 use Rattle.call_text.proofs.ClausesAgain.{name_some}
-use Rattle.call_text.proofs.SsasAgain.{Behind, name_begins, past_end, ssas_behind, ssas_again, given_behind, given_no_ssa, given_again}
+use Rattle.call_text.proofs.SsasAgain.{name_begins, past_end, ssas_behind, ssas_again, given_behind, given_no_ssa, given_again}
 
 -- a word of letters and digits begins with no blank
 word_some : (text word rest : List ℕ) → SpellsWord text word → Stops is_blank (text ++ rest)

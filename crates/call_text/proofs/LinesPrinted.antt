@@ -1,13 +1,12 @@
 -- What is printed spells what was printed: SSAs and lines.
-use Rattle.std.proofs.Common.{◌≡◌, ℕ, zero, suc, ◌+◌, ◌-◌, ◌*◌, ◌^◌, ◌<◌, ◌≤◌, ◌&&◌, Bool, true, false, cond, nat_le, nat_lt, List, [], ◌∷◌, ◌++◌, length, map, Option, Some, None, refl, sym, ap, subst, ◌∙◌, append_assoc, arith, codes, rules}
+use Rattle.std.proofs.Common.{◌≡◌, ℕ, ◌+◌, ◌-◌, ◌*◌, ◌≤◌, ◌&&◌, Bool, true, false, cond, nat_le, nat_lt, List, [], ◌∷◌, ◌++◌, length, map, Option, Some, None, refl, sym, ap, subst, ◌∙◌, append_assoc, arith, codes, rules}
 use Rattle.std.specs.List.{list_all, flat_map, fold, AllByRecursion}
-use Rattle.std.specs.Str.{all_ascii_digits}
 use Rattle.std.specs.Fmt.{decimal}
 use Rattle.std.proofs.lemmas.List.{append-nil}
 use Rattle.std.proofs.lemmas.Bool.Decides.{nat_tests}
 use Rattle.std.proofs.lemmas.Fmt.{digits_decimal, digits_value-decimal, length-decimal-le, decimal_nonempty}
 use Rattle.std.proofs.lemmas.Str.Parse.{IsNumeralModel, numerals_by_fold}
-use Rattle.hal_base.specs.Name.{is_digit, upper}
+use Rattle.hal_base.specs.Name.{is_digit}
 use Rattle.call_text.specs.declared.line.Value.{Value}
 use Rattle.call_text.specs.declared.line.Value.TheVariants.{Text, Hex}
 use Rattle.call_text.specs.declared.line.Clause.{Clause}
@@ -18,11 +17,11 @@ use Rattle.call_text.specs.declared.line.Command.{Command}
 use Rattle.call_text.specs.declared.line.Command.TheVariants.{Start, Step, Pause, Resume, Finish, Query}
 use Rattle.call_text.specs.declared.line.Line.{Line}
 use Rattle.call_text.specs.declared.line.Line.TheVariants as lines
-use Rattle.call_text.specs.Words.{is_blank, is_number, is_count, number_of}
+use Rattle.call_text.specs.Words.{is_number, is_count, number_of}
 use Rattle.call_text.specs.Printing.{is_printable, printed_value}
 use Rattle.call_text.specs.Printed.{bytes_of, operator_text, clause_text, joined_clause, clauses_text, codes_text, ssa_text, next_ssa, given_text, call_text, index_text, open_text, command_word, count_text, reorg_text, printed_line}
 use Rattle.call_text.specs.Plain.{plain_value, plain_clause, plain_ssa, plain_given, plain_call, plain_line, IsPlainValue, IsPlainClause, IsPlainSsa, IsPlainGiven, IsPlain}
-use Rattle.call_text.specs.Spelling.{IsGap, IsRoom, SpellsName, SpellsWord, SpellsValue, SpellsClauses, SpellsQualification, SpellsCodes, SpellsSsa, SpellsSsas, SpellsGiven, SpellsCall, SpellsIndex, SpellsOpen, SpellsCount, SpellsReorg, SpellsForm, SpellsWhole, Spells}
+use Rattle.call_text.specs.Spelling.{IsRoom, SpellsName, SpellsQualification, SpellsCodes, SpellsSsa, SpellsSsas, SpellsGiven, SpellsCall, SpellsIndex, SpellsOpen, SpellsCount, SpellsReorg, SpellsForm, SpellsWhole, Spells}
 use Rattle.call_text.proofs.Runs.{both, all_weaker}
 use Rattle.call_text.proofs.ValuesPrinted.{Prints, prints_both, name_spells, name_prints, word_spells, word_prints, value_printed}
 use Rattle.call_text.proofs.FormsPrinted.{closing, clauses_printed}

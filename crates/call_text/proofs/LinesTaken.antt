@@ -1,5 +1,5 @@
 -- What is read is spelled so: the forms, and the line.
-use Rattle.std.proofs.Common.{◌≡◌, ℕ, suc, ◌+◌, ◌<◌, ◌≤◌, ◌&&◌, ◌||◌, Bool, true, false, cond, nat_lt, ◌==◌, List, [], ◌∷◌, ◌++◌, length, map, Option, Some, None, Result, Ok, Err, refl, sym, ap, subst, ◌∙◌, append_assoc, arith, codes}
+use Rattle.std.proofs.Common.{◌≡◌, ℕ, ◌<◌, ◌≤◌, ◌||◌, Bool, true, false, cond, nat_lt, ◌==◌, List, [], ◌∷◌, ◌++◌, length, Option, Some, None, Result, Ok, Err, refl, sym, ap, subst, ◌∙◌, append_assoc, arith, codes}
 use Rattle.std.specs.List.{list_all, take_while}
 use Rattle.std.specs.Str.{bytes_eq}
 use Rattle.std.proofs.lemmas.Bool.{eqb-true, ltb-false}
@@ -14,14 +14,14 @@ use Rattle.call_text.specs.declared.line.Command.{Command}
 use Rattle.call_text.specs.declared.line.Command.TheVariants.{Start, Step, Pause, Resume, Finish, Query}
 use Rattle.call_text.specs.declared.line.Line.{Line}
 use Rattle.call_text.specs.declared.line.Line.TheVariants as lines
-use Rattle.call_text.specs.Words.{is_blank, past, in_word, is_word, is_number, is_count, number_of}
+use Rattle.call_text.specs.Words.{is_blank, past, in_word, is_number, is_count, number_of}
 use Rattle.call_text.specs.Printing.{is_printable}
 use Rattle.call_text.specs.Printed.{command_word, HasForm}
-use Rattle.call_text.specs.Spelling.{IsGap, IsRoom, SpellsName, SpellsWord, SpellsValue, SpellsSsas, SpellsGiven, SpellsCall, SpellsIndex, SpellsOpen, SpellsCount, SpellsReorg, SpellsForm, SpellsWhole, Spells}
-use Rattle.call_text.specs.Reading.{◌>>=◌, name_at, word_at, value_at, begins_word, is_end, ssas_at, given_at, call_at, is_reserved, session_at, index_at, open_at, count_at, plain_command, or_form, command_at, reorg_at, form_at, is_silent, cause_of, line_or_cause, line_of}
-use Rattle.call_text.proofs.Runs.{both, Stops}
+use Rattle.call_text.specs.Spelling.{IsGap, IsRoom, SpellsName, SpellsGiven, SpellsCall, SpellsIndex, SpellsOpen, SpellsCount, SpellsReorg, SpellsForm, Spells}
+use Rattle.call_text.specs.Reading.{◌>>=◌, name_at, word_at, value_at, begins_word, is_end, ssas_at, given_at, call_at, is_reserved, session_at, index_at, open_at, count_at, plain_command, or_form, command_at, reorg_at, form_at, is_silent, line_or_cause, line_of}
+use Rattle.call_text.proofs.Runs.{Stops}
 use Rattle.call_text.proofs.ValuesPrinted.{Prints}
-use Rattle.call_text.proofs.Taken.{bind_ok, passed, refused, ok_is, parts_of, blanks_of, past_prints, prints_parts, Taken, WordTaken, name_taken, word_taken, room_of, run_begins, all_of_run, past_stops, value_taken}
+use Rattle.call_text.proofs.Taken.{bind_ok, passed, refused, ok_is, parts_of, blanks_of, past_prints, prints_parts, WordTaken, name_taken, word_taken, room_of, run_begins, value_taken}
 use Rattle.call_text.proofs.ClausesTaken.{ssas_taken}
 
 -- nothing but blanks
@@ -73,8 +73,18 @@ call_taken written session text line name free stops prints e =
     let read : Call = record { session = session; func = a.0.0; ssas = b.0.0; content = c.0 } in
     let whole : text ≡ room ++ (func.taken.written ++ (ssas.written ++ b.0.1)) = parts_of is_blank text ∙ ap (λ (t : List ℕ). room ++ t) (func.taken.whole ∙ ap (λ (t : List ℕ). func.taken.written ++ t) ssas.whole) in
     let spells : SpellsCall (written ++ text) read = record {
-      session = written; room = room; func = func.taken.written; ssas = ssas.written; content = b.0.1; whole = ap (λ (t : List ℕ). written ++ t) whole;
-      session_is = name; free = free; room_is = room_of text stops func.begins; func_is = func.taken.spells; ssas_is = ssas.spells; content_is = given_taken b.0.1 c.0 ssas.prints c.1;
+      session = written;
+      room = room;
+      func = func.taken.written;
+      ssas = ssas.written;
+      content = b.0.1;
+      whole = ap (λ (t : List ℕ). written ++ t) whole;
+      session_is = name;
+      free = free;
+      room_is = room_of text stops func.begins;
+      func_is = func.taken.spells;
+      ssas_is = ssas.spells;
+      content_is = given_taken b.0.1 c.0 ssas.prints c.1;
     } in
     subst (SpellsForm (written ++ text)) (ok_is (lines.Call read) line c.2) spells
 
@@ -126,9 +136,20 @@ open_taken written text line name stops prints e =
     let behind_session : a.0.1 ≡ second ++ (options.taken.written ++ b.0.1) = parts_of is_blank a.0.1 ∙ ap (λ (t : List ℕ). second ++ t) options.taken.whole in
     let whole : text ≡ first ++ (session.name_is.taken.written ++ (second ++ (options.taken.written ++ b.0.1))) = parts_of is_blank text ∙ ap (λ (t : List ℕ). first ++ t) (session.name_is.taken.whole ∙ ap (λ (t : List ℕ). session.name_is.taken.written ++ t) behind_session) in
     let spells : SpellsOpen (written ++ text) read = record {
-      word = written; first = first; session = session.name_is.taken.written; second = second; options = options.taken.written; index = b.0.1; whole = ap (λ (t : List ℕ). written ++ t) whole;
-      word_is = name; first_is = room_of text stops session.name_is.begins; session_is = session.name_is.taken.spells; free = session.free;
-      second_is = room_of a.0.1 session.name_is.stops options.begins; options_is = options.taken.spells; index_is = index_taken b.0.1 c.0 options.stops options.taken.prints c.1;
+      word = written;
+      first = first;
+      session = session.name_is.taken.written;
+      second = second;
+      options = options.taken.written;
+      index = b.0.1;
+      whole = ap (λ (t : List ℕ). written ++ t) whole;
+      word_is = name;
+      first_is = room_of text stops session.name_is.begins;
+      session_is = session.name_is.taken.spells;
+      free = session.free;
+      second_is = room_of a.0.1 session.name_is.stops options.begins;
+      options_is = options.taken.spells;
+      index_is = index_taken b.0.1 c.0 options.stops options.taken.prints c.1;
     } in
     subst (SpellsForm (written ++ text)) (ok_is (lines.Open read) line c.2) spells
 
@@ -166,8 +187,10 @@ count_taken text groups rest stops e = by_case (is_number digits) refl e
   where
     inner : List ℕ
     inner = past is_blank text
+
     digits : List ℕ
     digits = take_while in_word inner
+
     by_case : (v : Bool) → is_number digits ≡ v → cond v (cond (is_count digits) (a_count (number_of digits) (past in_word inner)) (Err faults.Count)) (Err faults.Form) ≡ Ok (groups, rest) → CommandTaken (codes "STEP") text (Step groups) rest
     by_case true number h =
         let p = passed (is_count digits) faults.Count (number_of digits, past in_word inner) (groups, rest) h in
@@ -186,6 +209,7 @@ plain_taken word text command rest e = by_case (bytes_eq word (codes "START")) (
     known c is spells h =
         let made : some_command c text ≡ some_command command rest = ok_is (some_command c text) (some_command command rest) h in
         subst (λ (x : ReadCommand). CommandTaken word text x.0 x.1) made (record { word_is = is; count = []; whole = refl; spells = spells })
+
     by_case : (s p r f q : Bool) → bytes_eq word (codes "START") ≡ s → bytes_eq word (codes "PAUSE") ≡ p → bytes_eq word (codes "RESUME") ≡ r → bytes_eq word (codes "FINISH") ≡ f → bytes_eq word (codes "QUERY") ≡ q
         → or_form (cond s (Some Start) (cond p (Some Pause) (cond r (Some Resume) (cond f (Some Finish) (cond q (Some Query) None))))) text ≡ Ok (command, rest) → CommandTaken word text command rest
     by_case true p r f q es ep er ef eq h = known Start (same_bytes word (codes "START") es) refl h
@@ -224,9 +248,21 @@ reorg_taken written text line name stops prints e =
     let behind_verb : a.0.1 ≡ second ++ (part.taken.written ++ (command.count ++ c.0.1)) = parts_of is_blank a.0.1 ∙ ap (λ (t : List ℕ). second ++ t) (part.taken.whole ∙ ap (λ (t : List ℕ). part.taken.written ++ t) command.whole) in
     let whole : text ≡ first ++ (verb.taken.written ++ (second ++ (part.taken.written ++ (command.count ++ c.0.1)))) = parts_of is_blank text ∙ ap (λ (t : List ℕ). first ++ t) (verb.taken.whole ∙ ap (λ (t : List ℕ). verb.taken.written ++ t) behind_verb) in
     let spells : SpellsReorg (written ++ text) b.0.0 c.0.0 = record {
-      word = written; first = first; verb = verb.taken.written; second = second; name = part.taken.written; count = command.count; behind = c.0.1; whole = ap (λ (t : List ℕ). written ++ t) whole;
-      word_is = name; first_is = room_of text stops verb.begins; verb_is = subst (λ (w : List ℕ). SpellsName verb.taken.written w) command.word_is verb.taken.spells;
-      second_is = room_of a.0.1 verb.stops part.begins; name_is = part.taken.spells; count_is = command.spells; behind_is = p.0;
+      word = written;
+      first = first;
+      verb = verb.taken.written;
+      second = second;
+      name = part.taken.written;
+      count = command.count;
+      behind = c.0.1;
+      whole = ap (λ (t : List ℕ). written ++ t) whole;
+      word_is = name;
+      first_is = room_of text stops verb.begins;
+      verb_is = subst (λ (w : List ℕ). SpellsName verb.taken.written w) command.word_is verb.taken.spells;
+      second_is = room_of a.0.1 verb.stops part.begins;
+      name_is = part.taken.spells;
+      count_is = command.spells;
+      behind_is = p.0;
     } in
     subst (SpellsForm (written ++ text)) p.1 spells
 

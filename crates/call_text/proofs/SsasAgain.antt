@@ -1,20 +1,18 @@
 -- What is spelled is read: SSAs, and what stands behind them.
-use Rattle.std.proofs.Common.{◌≡◌, ℕ, zero, suc, ◌+◌, ◌<◌, ◌≤◌, ◌&&◌, Bool, true, false, cond, ◌==◌, List, [], ◌∷◌, ◌++◌, length, map, drop, Option, Some, None, Result, Ok, Err, refl, sym, ap, subst, ◌∙◌, append_assoc, arith, length-append}
+use Rattle.std.proofs.Common.{◌≡◌, ℕ, zero, suc, ◌≤◌, ◌&&◌, Bool, true, false, ◌==◌, List, [], ◌∷◌, ◌++◌, length, Option, Some, None, Ok, refl, sym, ap, subst, ◌∙◌, append_assoc, arith, length-append}
 use Rattle.std.specs.List.{list_all}
 use Rattle.std.proofs.lemmas.List.{append-nil}
-use Rattle.hal_base.specs.Name.{is_name, is_name_byte, upper}
-use Rattle.call_text.specs.declared.fault.Fault.{Fault}
+use Rattle.hal_base.specs.Name.{is_name, is_name_byte}
 use Rattle.call_text.specs.declared.line.Value.{Value}
 use Rattle.call_text.specs.declared.line.Clause.{Clause}
 use Rattle.call_text.specs.declared.line.Ssa.{Ssa}
-use Rattle.call_text.specs.Words.{is_blank, past, in_word, is_word}
-use Rattle.call_text.specs.Spelling.{IsGap, IsRoom, SpellsName, SpellsWord, SpellsValue, SpellsClauses, SpellsQualification, SpellsCodes, SpellsSsa, SpellsSsas, SpellsGiven}
-use Rattle.call_text.specs.Reading.{◌>>=◌, name_at, word_at, value_at, begins_blank, clauses_at, codes_at, begins_with, behind, qualification_at, ssa_at, begins_word, begins_ssa, ssas_at, is_end, given_at}
-use Rattle.call_text.proofs.Loops.{onto}
-use Rattle.call_text.proofs.Runs.{both, Stops, past_run, name_bytes, in_words}
-use Rattle.call_text.proofs.Stopping.{other_byte, stops_run, stops_gap, stops_room, stops_end, word_blank, value_no_blank}
+use Rattle.call_text.specs.Words.{is_blank, past, in_word}
+use Rattle.call_text.specs.Spelling.{IsGap, IsRoom, SpellsName, SpellsQualification, SpellsCodes, SpellsSsa, SpellsSsas, SpellsGiven}
+use Rattle.call_text.specs.Reading.{begins_blank, codes_at, begins_with, qualification_at, ssa_at, begins_word, begins_ssa, ssas_at, given_at}
+use Rattle.call_text.proofs.Runs.{both, Stops, name_bytes, in_words}
+use Rattle.call_text.proofs.Stopping.{other_byte, stops_gap, stops_room, stops_end, word_blank, value_no_blank}
 use Rattle.call_text.proofs.Again.{name_again, word_again, past_gap, value_again}
-use Rattle.call_text.proofs.ClausesAgain.{is_quote, name_some, room_begins, clauses_again}
+use Rattle.call_text.proofs.ClausesAgain.{is_quote, room_begins, clauses_again}
 
 abbrev is_star : ℕ → Bool
 is_star b = b == 42

@@ -1,15 +1,14 @@
 -- What comes next, and which runs it stops.
-use Rattle.std.proofs.Common.{◌≡◌, ℕ, suc, ◌+◌, ◌<◌, ◌≤◌, ◌&&◌, ◌||◌, Bool, true, false, cond, nat_le, ◌==◌, List, [], ◌∷◌, ◌++◌, length, map, refl, sym, ap, ◌∙◌, append_assoc, arith, inl, inr, ◌⊎◌}
-use Rattle.std.specs.List.{list_all, flat_map}
+use Rattle.std.proofs.Common.{◌≡◌, ℕ, ◌<◌, ◌||◌, Bool, true, false, ◌==◌, List, [], ◌∷◌, ◌++◌, length, map, refl, sym, ap, ◌∙◌, arith}
+use Rattle.std.specs.List.{list_all}
 use Rattle.std.proofs.lemmas.Bool.{eqb-true}
 use Rattle.hal_base.specs.Name.{upper}
 use Rattle.call_text.specs.declared.line.Value.{Value}
 use Rattle.call_text.specs.declared.line.Value.TheVariants.{Text, Hex}
-use Rattle.call_text.specs.Words.{is_blank, past, in_word}
-use Rattle.call_text.specs.Printing.{doubled}
+use Rattle.call_text.specs.Words.{is_blank, in_word}
 use Rattle.call_text.specs.Printed.{is_sign}
-use Rattle.call_text.specs.Spelling.{IsGap, IsRoom, SpellsName, SpellsWord, SpellsValue}
-use Rattle.call_text.proofs.Runs.{both, Stops, name_bytes, word_bytes, in_words}
+use Rattle.call_text.specs.Spelling.{IsGap, IsRoom, SpellsValue}
+use Rattle.call_text.proofs.Runs.{both, Stops}
 
 -- a byte that passes a test isn't one that fails it
 pub other_byte : (k : ℕ) (q : ℕ → Bool) → q k ≡ false → (b : ℕ) → q b ≡ true → (b == k) ≡ false

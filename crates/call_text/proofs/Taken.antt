@@ -1,9 +1,9 @@
 -- What is read is spelled so: names, words and values.
-use Rattle.std.proofs.Common.{◌≡◌, ℕ, suc, ◌+◌, ◌-◌, ◌*◌, ◌<◌, ◌≤◌, ◌&&◌, ◌||◌, Bool, true, false, cond, nat_le, nat_lt, ◌==◌, List, [], ◌∷◌, ◌++◌, length, map, take, drop, Result, Ok, Err, refl, sym, ap, subst, ◌∙◌, append_assoc, arith, inl, inr, ◌⊎◌}
+use Rattle.std.proofs.Common.{◌≡◌, ℕ, suc, ◌+◌, ◌*◌, ◌<◌, ◌&&◌, Bool, true, false, cond, ◌==◌, List, [], ◌∷◌, ◌++◌, length, map, Result, Ok, Err, refl, sym, ap, subst, ◌∙◌, append_assoc, arith}
 use Rattle.std.specs.List.{list_all, flat_map, prefix_len, take_while}
 use Rattle.std.proofs.lemmas.Bool.{eqb-true}
 use Rattle.std.proofs.lemmas.Bool.Decides.{nat_tests}
-use Rattle.std.proofs.lemmas.List.{take-append-drop, append-nil}
+use Rattle.std.proofs.lemmas.List.{take-append-drop}
 use Rattle.std.proofs.lemmas.List.Sums.{take_while-cons}
 use Rattle.std.proofs.lemmas.List.Folds.{list_all-append}
 use Rattle.hal_base.specs.Name.{is_name, upper}
@@ -11,9 +11,8 @@ use Rattle.call_text.specs.declared.fault.Fault.{Fault}
 use Rattle.call_text.specs.declared.fault.Fault.TheVariants as faults
 use Rattle.call_text.specs.declared.line.Value.{Value}
 use Rattle.call_text.specs.declared.line.Value.TheVariants.{Text, Hex}
-use Rattle.call_text.specs.Words.{is_blank, past, in_word, is_letter, is_word}
+use Rattle.call_text.specs.Words.{is_blank, past, in_word, is_word}
 use Rattle.call_text.specs.Printing.{is_printable, doubled, quoted}
-use Rattle.call_text.specs.Printed.{is_sign}
 use Rattle.call_text.specs.Spelling.{IsGap, IsRoom, SpellsName, SpellsWord, SpellsPairs, SpellsHex, SpellsValue}
 use Rattle.call_text.specs.Reading.{◌>>=◌, name_at, word_at, text_at, is_hex, hex_value, close_at, pairs_at, hex_at, value_at, begins_word}
 use Rattle.call_text.proofs.Loops.{onto}
@@ -174,8 +173,10 @@ text_taken (b ∷ c ∷ tail) bytes rest prints e = by_case (b == 39) (c == 39) 
   where
     outer : (is_printable b ≡ true) × (Prints (c ∷ tail))
     outer = both (is_printable b) (list_all is_printable (c ∷ tail)) prints
+
     inner : (is_printable c ≡ true) × (Prints tail)
     inner = both (is_printable c) (list_all is_printable tail) outer.1
+
     by_case : (v w : Bool) → (b == 39) ≡ v → (c == 39) ≡ w → ((xs r : List ℕ) → text_at tail ≡ Ok (xs, r) → TextTaken tail xs r) → ((xs r : List ℕ) → text_at (c ∷ tail) ≡ Ok (xs, r) → TextTaken (c ∷ tail) xs r) → cond v (cond w (onto 39 (text_at tail)) (Ok ([], c ∷ tail))) (onto b (text_at (c ∷ tail))) ≡ Ok (bytes, rest) → TextTaken (b ∷ c ∷ tail) bytes rest
     by_case true true bq cq further after h =
         let p = bind_ok (text_at tail) (λ x. Ok (39 ∷ x.0, x.1)) (bytes, rest) h in
@@ -264,8 +265,10 @@ value_taken (a ∷ b ∷ tail) value rest prints e = by_case (a == 39) refl e
   where
     outer : (is_printable a ≡ true) × (Prints (b ∷ tail))
     outer = both (is_printable a) (list_all is_printable (b ∷ tail)) prints
+
     inner : (is_printable b ≡ true) × (Prints tail)
     inner = both (is_printable b) (list_all is_printable tail) outer.1
+
     hex_case : (v : Bool) → (upper a == 88 && b == 39) ≡ v → cond v (as_hex (hex_at tail)) (Err faults.Form) ≡ Ok (value, rest) → Taken (λ w. SpellsValue w value) (a ∷ b ∷ tail) rest
     hex_case true is h =
         let q = both (upper a == 88) (b == 39) is in
@@ -278,6 +281,7 @@ value_taken (a ∷ b ∷ tail) value rest prints e = by_case (a == 39) refl e
         let spells : SpellsHex written p.0.0 = record { mark = a; digits = t.0.digits; whole = refl; mark_is = eqb-true (upper a) 88 q.0; some = t.1; pairs = t.0.pairs } in
         subst (λ (x : Value × List ℕ). Taken (λ w. SpellsValue w x.0) (a ∷ b ∷ tail) x.1) made (record { written = written; whole = whole; spells = spells; prints = (prints_parts written p.0.1 (a ∷ b ∷ tail) whole prints).1 })
     hex_case false is h = absurd cc
+
     by_case : (v : Bool) → (a == 39) ≡ v → cond v (as_text (text_at (b ∷ tail))) (cond (upper a == 88 && b == 39) (as_hex (hex_at tail)) (Err faults.Form)) ≡ Ok (value, rest) → Taken (λ w. SpellsValue w value) (a ∷ b ∷ tail) rest
     by_case true is h =
         let p = bind_ok (text_at (b ∷ tail)) (λ read. Ok (Text read.0, read.1)) (value, rest) h in

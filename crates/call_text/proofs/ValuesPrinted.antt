@@ -1,21 +1,16 @@
 -- What is printed spells what was printed: names, words, values and operators.
-use Rattle.std.proofs.Common.{◌≡◌, ℕ, suc, ◌+◌, ◌-◌, ◌*◌, ◌/◌, ◌%◌, ◌<◌, ◌≤◌, ◌&&◌, ◌||◌, Bool, true, false, cond, nat_le, nat_lt, ◌==◌, List, [], ◌∷◌, ◌++◌, length, map, refl, sym, ap, subst, ◌∙◌, append_assoc, arith, inl, inr, ◌⊎◌, codes}
+use Rattle.std.proofs.Common.{◌≡◌, ℕ, ◌+◌, ◌*◌, ◌/◌, ◌%◌, ◌<◌, Bool, true, false, cond, ◌==◌, List, [], ◌∷◌, ◌++◌, map, refl, ◌∙◌, arith}
 use Rattle.std.specs.List.{list_all, flat_map}
-use Rattle.std.specs.Str.{bytes_eq}
-use Rattle.std.proofs.lemmas.Bool.{eqb-true}
-use Rattle.std.proofs.lemmas.Bool.Decides.{nat_tests}
-use Rattle.std.proofs.lemmas.List.{append-nil}
 use Rattle.std.proofs.lemmas.List.Folds.{list_all-append}
-use Rattle.hal_base.specs.Name.{is_name, is_name_byte, upper}
+use Rattle.hal_base.specs.Name.{is_name_byte, upper}
 use Rattle.call_text.specs.declared.line.Value.{Value}
 use Rattle.call_text.specs.declared.line.Value.TheVariants.{Text, Hex}
-use Rattle.call_text.specs.Words.{is_blank, in_word, is_letter, is_word}
 use Rattle.call_text.specs.Printing.{is_printable, doubled, quoted, hex_digit, hex_pair, in_hex, printed_value}
-use Rattle.call_text.specs.Printed.{is_sign, operator_text, bytes_of}
+use Rattle.call_text.specs.Printed.{bytes_of}
 use Rattle.call_text.specs.Plain.{plain_value}
-use Rattle.call_text.specs.Spelling.{IsGap, IsRoom, SpellsName, SpellsWord, SpellsPairs, SpellsHex, SpellsValue, SpellsSigns, SpellsOperatorWord, SpellsOperator}
-use Rattle.call_text.specs.Reading.{is_hex, hex_value, printed_operator}
-use Rattle.call_text.proofs.Runs.{both, all_weaker, name_bytes, word_bytes, letters_bytes}
+use Rattle.call_text.specs.Spelling.{SpellsName, SpellsWord, SpellsPairs, SpellsHex, SpellsValue}
+use Rattle.call_text.specs.Reading.{is_hex, hex_value}
+use Rattle.call_text.proofs.Runs.{both, all_weaker, name_bytes, word_bytes}
 
 abbrev pub Prints : List ℕ → Type 0
 Prints text = list_all is_printable text ≡ true

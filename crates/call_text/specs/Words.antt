@@ -1,6 +1,6 @@
 -- Blanks and words.
-use Rattle.std.specs.Prelude.{ℕ, ◌+◌, ◌-◌, ◌*◌, ◌&&◌, ◌||◌, Bool, nat_le, nat_lt, ◌==◌, if◌then◌else◌, List, [], ◌∷◌, length, map, drop, fold}
-use Rattle.std.specs.List.{list_all, prefix_len, take_while}
+use Rattle.std.specs.Prelude.{ℕ, ◌+◌, ◌-◌, ◌*◌, ◌&&◌, ◌||◌, Bool, nat_le, nat_lt, ◌==◌, List, length, drop, fold}
+use Rattle.std.specs.List.{list_all, prefix_len}
 use Rattle.hal_base.specs.Name.{is_name_byte, is_digit, upper}
 
 abbrev pub is_blank : ℕ → Bool

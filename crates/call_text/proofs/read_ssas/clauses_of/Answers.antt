@@ -1,4 +1,4 @@
-use Rattle.std.proofs.Common.{◌<◌, Some, false, sym, ap, ◌∙◌, arith}
+use Rattle.std.proofs.Common.{◌<◌, Some, false, arith}
 use Rattle.std.proofs.lemmas.Result.{err_from_is_err_and}
 use Rattle.call_text.specs.Reading.{clauses_at}
 use Rattle.call_text.proofs.Loops.{clauses_go_on, clauses_end, clauses_many, clauses_close}

@@ -1,4 +1,4 @@
-use Rattle.std.proofs.Common.{◌≡◌, ◌<◌, true, false, sym, ◌∙◌, arith}
+use Rattle.std.proofs.Common.{◌≡◌, true, sym, ◌∙◌, arith}
 use Rattle.std.proofs.lemmas.Result.{err_from_is_err_and}
 use Rattle.call_text.specs.Reading.{begins_ssa, ssas_at}
 use Rattle.call_text.proofs.Loops.{ssas_go_on, ssas_end, ssas_none_left, ssas_stop}

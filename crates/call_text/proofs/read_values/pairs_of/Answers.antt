@@ -1,6 +1,5 @@
-use Rattle.std.proofs.Common.{◌≡◌, None}
 use Rattle.std.proofs.lemmas.Result.{err_from_is_err_and}
-use Rattle.call_text.specs.Reading.{pair_at, pairs_at}
+use Rattle.call_text.specs.Reading.{pairs_at}
 use Rattle.call_text.proofs.Loops.{pairs_go_on, pairs_stop, pairs_close, pairs_end}
 use Rattle.call_text.proofs.read_values.pairs_of.Goals as goal
 

@@ -1,6 +1,5 @@
-use Rattle.std.proofs.Common.{◌≡◌, Option, Some, None, Ok}
 use Rattle.std.proofs.lemmas.Result.{err_from_is_err_and}
-use Rattle.call_text.specs.Reading.{text_byte_at, text_at}
+use Rattle.call_text.specs.Reading.{text_at}
 use Rattle.call_text.proofs.Loops.{text_goes_on, text_closes, text_ends}
 use Rattle.call_text.proofs.read_values.text_of.Goals as goal
 
