@@ -1,0 +1,13 @@
+pub mod Again
+pub mod ClausesAgain
+pub mod ClausesTaken
+pub mod FormsPrinted
+pub mod LinesAgain
+pub mod LinesPrinted
+pub mod LinesTaken
+pub mod Loops
+pub mod Runs
+pub mod SsasAgain
+pub mod Stopping
+pub mod Taken
+pub mod ValuesPrinted

@@ -1,0 +1,37 @@
+-- Blanks and words.
+use Rattle.std.specs.Prelude.{ℕ, ◌+◌, ◌-◌, ◌*◌, ◌&&◌, ◌||◌, Bool, nat_le, nat_lt, ◌==◌, List, length, drop, fold}
+use Rattle.std.specs.List.{list_all, prefix_len}
+use Rattle.hal_base.specs.Name.{is_name_byte, is_digit, upper}
+
+abbrev pub is_blank : ℕ → Bool
+is_blank b = b == 32
+
+-- what stands behind the longest run at the front of bytes that pass
+abbrev pub past : (ℕ → Bool) → List ℕ → List ℕ
+past test text = drop (prefix_len test text) text
+
+-- a byte of names, in either case
+abbrev pub in_word : ℕ → Bool
+in_word b = is_name_byte (upper b)
+
+abbrev pub is_letter : ℕ → Bool
+is_letter b = nat_le 65 b && nat_le b 90
+
+abbrev pub is_letter_or_digit : ℕ → Bool
+is_letter_or_digit b = is_letter b || is_digit b
+
+-- options, functions and codes: 1 to 8 letters or digits
+abbrev pub is_word : List ℕ → Bool
+is_word word = nat_lt 0 (length word) && nat_le (length word) 8 && list_all is_letter_or_digit word
+
+-- the number that digits write
+abbrev pub number_of : List ℕ → ℕ
+number_of digits = fold (λ n digit. 10 * n + (digit - 48)) 0 digits
+
+-- 1 to 1,000 groups, in 1 to 4 digits
+abbrev pub is_count : List ℕ → Bool
+is_count digits = nat_le (length digits) 4 && nat_le 1 (number_of digits) && nat_le (number_of digits) 1000
+
+-- one digit or more, and nothing else
+abbrev pub is_number : List ℕ → Bool
+is_number word = nat_lt 0 (length word) && list_all is_digit word
