@@ -6,3 +6,4 @@ pub mod LineLemmas
 pub mod Loops
 pub mod Numbered
 pub mod Pieces
+pub mod RootCase

@@ -4,6 +4,7 @@
 mod desk;
 mod ending;
 mod form;
+mod laws;
 mod one_list;
 mod roots;
 mod script;
@@ -13,6 +14,7 @@ mod words;
 pub use desk::{Ended, run};
 pub use ending::Ending;
 pub use form::{Form, read_form};
+pub use laws::insertion_is_a_case;
 pub use one_list::OneList;
 pub use roots::Roots;
 pub use script::{LIMIT, run_script};
