@@ -1,5 +1,5 @@
 // Lines, as they are read.
-ghost use Rattle.std.specs.Prelude.{◌≡◌, IfOk, length};
+ghost use Rattle.std.specs.Prelude.{◌≡◌, ℕ, List, IfOk, length};
 ghost use Rattle.std.specs.List.{list_all};
 ghost use Rattle.call_text.specs.Printing.{is_printable};
 ghost use Rattle.call_text.specs.Printed.{HasForm};
@@ -208,3 +208,8 @@ pub fn read_line(alloc: Global, line: &[u8]) -> Result<Line, Memory>
 {
     read(alloc, line)
 }
+
+/// A text spells one line at most.
+pub fn one_reading()
+    ensures { (text : List ℕ) (first second : Line) → Spells text first → Spells text second → first ≡ second }
+{}
