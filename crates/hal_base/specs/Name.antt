@@ -1,6 +1,7 @@
 -- Names of segments, fields, databases and partitions, as DBD source has them: 1 to 8 bytes.
-use Rattle.std.specs.Prelude.{ℕ, ◌-◌, ◌&&◌, ◌||◌, Bool, false, nat_le, ◌==◌, if◌then◌else◌, List, [], ◌∷◌, ◌++◌, length, drop, replicate}
+use Rattle.std.specs.Prelude.{ℕ, ◌-◌, ◌&&◌, ◌||◌, Bool, false, nat_le, ◌==◌, if◌then◌else◌, List, [], ◌∷◌, ◌++◌, length, take, drop, replicate, codes}
 use Rattle.std.specs.List.{list_all}
+use Rattle.std.specs.Str.{bytes_eq}
 
 -- a lower-case letter is taken as its upper-case one, every other byte as it is
 abbrev pub upper : ℕ → ℕ
@@ -20,6 +21,14 @@ is_name_byte b = is_name_letter b || is_digit b
 abbrev pub is_name : List ℕ → Bool
 is_name [] = false
 is_name (first ∷ more) = is_name_letter first && list_all is_name_byte more && nat_le (length more) 7
+
+-- the name of a portion of the concatenated key: `/CK` and 0 to 5 such bytes
+abbrev pub is_portion_name : List ℕ → Bool
+is_portion_name name = bytes_eq (take 3 name) (codes "/CK") && list_all is_name_byte (drop 3 name) && nat_le (length name) 8
+
+-- a name, or that of a portion
+abbrev pub is_field_name : List ℕ → Bool
+is_field_name name = is_name name || is_portion_name name
 
 -- eight bytes: the name, then blanks
 abbrev pub padded : List ℕ → List ℕ

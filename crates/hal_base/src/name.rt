@@ -1,15 +1,15 @@
 // Names, as DBD source has them.
-ghost use Rattle.std.specs.Prelude.{◌≡◌, ◌≤◌, ◌↔◌, IsTrue, SomeIff, length, map};
+ghost use Rattle.std.specs.Prelude.{◌≡◌, ◌≤◌, ◌↔◌, IsTrue, SomeIff, codes, drop, length, map, take};
 ghost use Rattle.std.specs.Str.{bytes_eq};
 ghost use Rattle.std.specs.Cmp.Lexicographic.{nat_list_eq_equiv};
 ghost use Rattle.std.specs.Cmp.{partial_equiv_from_equiv};
 ghost use Rattle.std.specs.List.{list_all};
-ghost use Rattle.hal_base.specs.Name.{is_name, is_name_letter, is_name_byte, padded, upper};
+ghost use Rattle.hal_base.specs.Name.{is_field_name, is_name, is_portion_name, is_name_letter, is_name_byte, padded, upper};
 
 use std::marker::Model;
 
-/// A name of 1 to 8 bytes: `A` to `Z`, `0` to `9`, `#`, `@` and `$`, the first no digit. Contracts see it as
-/// the list of these bytes.
+/// A name of 1 to 8 bytes: `A` to `Z`, `0` to `9`, `#`, `@` and `$`, the first no digit; or the name of a portion
+/// of a concatenated key, `/CK` and 0 to 5 of these bytes. Contracts see it as the list of its bytes.
 #[derive(Clone, Copy, Debug)]
 pub struct Name8 {
     letters: [u8; 8],
@@ -48,9 +48,23 @@ impl Name8 {
         })
     }
 
+    /// The name of a portion of a concatenated key that these bytes spell, a lower-case letter taken as its
+    /// upper-case one; none where they spell no such name.
+    pub fn read_portion(text: &[u8]) -> Option<Name8>
+        ensures { SomeIff result (IsTrue (is_portion_name (map upper text.now))) (map upper text.now) }
+    {
+        if !spells_portion(text) {
+            return None;
+        }
+        Some(Name8 {
+            letters: stored(text),
+            len: text.len() as u8,
+        })
+    }
+
     pub fn as_slice(&self) -> &[u8]
         ensures same { result.now ≡ self.now }
-        ensures name { IsTrue (is_name self.now) }
+        ensures name { IsTrue (is_field_name self.now) }
         ensures short { length self.now ≤ 8 }
     {
         &self.letters[..self.len as usize]
@@ -98,6 +112,27 @@ fn spells_name(text: &[u8]) -> bool
         [first, more @ ..] => {
             is_letter(upper_case(*first)) && all_in_names(more) && more.len() <= 7
         }
+    }
+}
+
+fn spells_portion(text: &[u8]) -> bool
+    ensures { result ≡ is_portion_name (map upper text.now) }
+{
+    starts_portion(text) && all_in_names(after_three(text)) && text.len() <= 8
+}
+
+fn after_three(text: &[u8]) -> &[u8]
+    ensures { result.now ≡ drop 3 text.now }
+{
+    if text.len() < 3 { &[] } else { &text[3..] }
+}
+
+fn starts_portion(text: &[u8]) -> bool
+    ensures { result ≡ bytes_eq (take 3 (map upper text.now)) (codes "/CK") }
+{
+    match text {
+        [a, b, c, ..] => *a == b'/' && upper_case(*b) == b'C' && upper_case(*c) == b'K',
+        _ => false,
     }
 }
 
