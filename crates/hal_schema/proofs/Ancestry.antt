@@ -137,7 +137,7 @@ key_bytes-at types c d z l = ap (λ o. option_map_or (λ k. k.bytes) (option_and
 
 -- one step up, where the code isn't the one that is looked for
 pub above_like : (types : List SegType) → IsTrue (parents_are_before types) → (c p target : ℕ) → 0 < c → parent_of types c ≡ Some p → (c == target) ≡ false
-  → list_any (λ code. code == target) (ancestry (parent_of types) p) ≡ list_any (λ code. code == target) (ancestry (parent_of types) c)
+    → list_any (λ code. code == target) (ancestry (parent_of types) p) ≡ list_any (λ code. code == target) (ancestry (parent_of types) c)
 above_like types h c p target z e other =
     sym (ap (list_any (λ code. code == target)) (ancestry-child (parent_of types) (types_lower types h) c p z e) ∙ ap (λ b. b || list_any (λ code. code == target) (ancestry (parent_of types) p)) other)
 

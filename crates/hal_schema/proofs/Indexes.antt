@@ -97,8 +97,8 @@ subseq_within types indexes k i n kept at long =
 
 -- the fields of an index, against those that were read
 pub kept_at : (types : List SegType) (i : IndexDef) (fields : List Field) (path : ℕ) (r : Bool) (t : SegType) → type_of types i.source ≡ Some t → fields ≡ t.fields → path ≡ path_key_bytes types i.source
-  → r ≡ (list_all (λ f. not (is_key_portion f.name) && list_any (same_field f) fields) i.search && list_all (λ f. is_key_portion f.name && list_any (same_field f) fields && is_within path f.start f.bytes) i.subseq)
-  → r ≡ option_map_or (fields_are_kept types i) (type_of types i.source) false
+    → r ≡ (list_all (λ f. not (is_key_portion f.name) && list_any (same_field f) fields) i.search && list_all (λ f. is_key_portion f.name && list_any (same_field f) fields && is_within path f.start f.bytes) i.subseq)
+    → r ≡ option_map_or (fields_are_kept types i) (type_of types i.source) false
 kept_at types i fields path r t e ef ep h =
     let tests = λ (fs : List Field) (p : ℕ). list_all (λ f. not (is_key_portion f.name) && list_any (same_field f) fs) i.search && list_all (λ f. is_key_portion f.name && list_any (same_field f) fs && is_within p f.start f.bytes) i.subseq in
     h ∙ ap (λ fs. tests fs path) ef ∙ ap (tests t.fields) ep ∙ sym (ap (λ o. option_map_or (fields_are_kept types i) o false) e)

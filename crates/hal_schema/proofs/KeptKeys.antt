@@ -63,14 +63,14 @@ key_found [] h = refl
 key_found (f ∷ fields) h = by (is_sequence_field f) refl (key_found fields (and_parts _ _ h).1)
   where
     by : (b : Bool) → is_sequence_field f ≡ b → option_map_or (key_ok (map field_of fields)) (key_field fields) true ≡ true
-      → option_map_or (key_ok (field_of f ∷ map field_of fields)) (option_map key_of_field (cond b (Some f) (find is_sequence_field fields))) true ≡ true
+        → option_map_or (key_ok (field_of f ∷ map field_of fields)) (option_map key_of_field (cond b (Some f) (find is_sequence_field fields))) true ≡ true
     by true e rest =
         let no = not-true (is_sequence_field f && is_bad f) (and_parts _ _ h).0 in
         here_ok f (map field_of fields) (ap (λ b. b && is_bad f) (sym e) ∙ no)
     by false e rest = one_more (field_of f) (map field_of fields) (key_field fields) rest
 
 type_key : (t : RawType) → twice both_sequence (λ f. statement f.line) t.fields ++ flat_map (λ f. when (is_sequence_field f && (nat_lt 100 f.bytes || is_key_portion f.name)) (statement f.line)) t.fields ≡ []
-  → option_map_or (key_ok (map field_of t.fields)) (key_field t.fields) true ≡ true
+    → option_map_or (key_ok (map field_of t.fields)) (key_field t.fields) true ≡ true
 type_key t e =
     let p = nil_parts (twice both_sequence (λ f. statement f.line) t.fields) (flat_map (λ f. when (is_sequence_field f && (nat_lt 100 f.bytes || is_key_portion f.name)) (statement f.line)) t.fields) e in
     key_found t.fields (all_kept (λ f. is_sequence_field f && is_bad f) (λ f. statement f.line) t.fields p.1)
@@ -79,7 +79,7 @@ pub kept_keys : (types : List RawType) → sequence_broken types ≡ [] → IsTr
 kept_keys types e =
     list_all-map (λ (t : SegType). option_map_or (key_ok t.fields) t.key true) (seg_type types) types
     ∙ each_nil (λ (t : RawType). twice both_sequence (λ f. statement f.line) t.fields ++ flat_map (λ f. when (is_sequence_field f && (nat_lt 100 f.bytes || is_key_portion f.name)) (statement f.line)) t.fields)
-        (λ t. option_map_or (key_ok (map field_of t.fields)) (key_field t.fields) true) type_key types e
+    (λ t. option_map_or (key_ok (map field_of t.fields)) (key_field t.fields) true) type_key types e
 
 -- ---- the root's key
 
@@ -88,7 +88,7 @@ key_unique [] any all = any
 key_unique (f ∷ fields) any all = by (is_sequence_field f) refl (λ more. key_unique fields more (and_parts _ _ all).1)
   where
     by : (b : Bool) → is_sequence_field f ≡ b → (list_any is_sequence_field fields ≡ true → option_map_or (λ k. k.unique) (key_field fields) false ≡ true)
-      → option_map_or (λ k. k.unique) (option_map key_of_field (cond b (Some f) (find is_sequence_field fields))) false ≡ true
+        → option_map_or (λ k. k.unique) (option_map key_of_field (cond b (Some f) (find is_sequence_field fields))) false ≡ true
     by true e rest =
         let a = ltb-true 0 f.seq e in
         let b = ltb-false 1 f.seq (not-true _ (and_parts _ _ all).0) in
@@ -122,14 +122,14 @@ highs_above dbd (p ∷ parts) e =
     let q = nil_parts (flat_map (λ q. when (same_high p q) (later (partition p.place) (partition q.place))) parts) (twice same_high (λ p. partition p.place) parts) e in
     let test = λ (y : PartDef). high_below y (part_of dbd p) || high_below (part_of dbd p) y in
     let each : list_all test (map (part_of dbd) parts) ≡ true =
-        list_all-map test (part_of dbd) parts
-        ∙ all_weaker (λ q. not (same_high p q)) (λ q. test (part_of dbd q)) (λ q h. apart p.high q.high (not-true _ h)) parts
-            (all_kept (λ q. same_high p q) (λ q. later (partition p.place) (partition q.place)) parts q.0) in
+    list_all-map test (part_of dbd) parts
+    ∙ all_weaker (λ q. not (same_high p q)) (λ q. test (part_of dbd q)) (λ q h. apart p.high q.high (not-true _ h)) parts
+    (all_kept (λ q. same_high p q) (λ q. later (partition p.place) (partition q.place)) parts q.0) in
     rise-put high_below high_below (part_of dbd p) (λ y h. h) (in_order high_below (map (part_of dbd) parts)) (all-order test high_below (map (part_of dbd) parts) each) (highs_above dbd parts q.1)
 
 pub kept_highs : (dbd : RawDbd) (types : List SegType) (parts : List RawPart) → highs_broken types parts ≡ [] → IsTrue (highs_rise types (parts_of dbd parts))
 kept_highs dbd types parts e =
     let q = nil_parts (flat_map (λ p. when (not (high_is_long (key_bytes types 1) p)) (partition p.place)) parts) (twice same_high (λ p. partition p.place) parts) e in
     and_from _ _ (all-order (λ (p : PartDef). length p.high == key_bytes types 1) high_below (map (part_of dbd) parts)
-      (list_all-map (λ (p : PartDef). length p.high == key_bytes types 1) (part_of dbd) parts ∙ all_sound (high_is_long (key_bytes types 1)) (λ p. partition p.place) parts q.0))
-      (highs_above dbd parts q.1)
+    (list_all-map (λ (p : PartDef). length p.high == key_bytes types 1) (part_of dbd) parts ∙ all_sound (high_is_long (key_bytes types 1)) (λ p. partition p.place) parts q.0))
+    (highs_above dbd parts q.1)

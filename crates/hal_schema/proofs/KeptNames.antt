@@ -43,5 +43,5 @@ kept_type_names raw e =
     let c = nil_parts _ (names_twice (map part_name raw.parts.parts)) b.0 in
     let d = nil_parts (names_twice (map type_name types)) (names_twice (map index_name raw.dbd.indexes)) c.0 in
     let here : all_differ (λ (s : RawType) (t : RawType). bytes_eq s.name t.name) types ≡ true =
-        sym (differ-map same_name type_name types) ∙ differ_from_twice same_name (λ (n : Named). n.place) (map type_name types) d.0 in
+    sym (differ-map same_name type_name types) ∙ differ_from_twice same_name (λ (n : Named). n.place) (map type_name types) d.0 in
     differ-map bytes_eq (λ (t : SegType). t.name) (types_of types) ∙ differ-map (λ (s : SegType) (t : SegType). bytes_eq s.name t.name) (seg_type types) types ∙ here

@@ -67,7 +67,7 @@ kept_blocks parts e =
 pub kept_numbers : (parts : RawParts) → numbers_broken parts ≡ [] → list_all (λ p. number_fits p.number) parts.parts ≡ true
 kept_numbers parts e =
     all_sound (λ (p : RawPart). number_fits p.number) (λ p. partition p.place) parts.parts
-      (nil_parts (when (not (blocks_are_kept parts.blocks)) (partition 0)) (flat_map (λ p. when (not (number_fits p.number)) (partition p.place)) parts.parts) e).1
+    (nil_parts (when (not (blocks_are_kept parts.blocks)) (partition 0)) (flat_map (λ p. when (not (number_fits p.number)) (partition p.place)) parts.parts) e).1
 
 pub kept_factors : (dbd : RawDbd) (parts : List RawPart) → factors_broken dbd parts ≡ [] → list_all (λ p. factors_fit dbd.phdam (part_of dbd p)) parts ≡ true
 kept_factors dbd parts e = all_sound (λ p. factors_fit dbd.phdam (part_of dbd p)) (λ p. partition p.place) parts e
@@ -82,7 +82,7 @@ two_tests p q (x ∷ xs) a b =
 pub kept_parts : (dbd : RawDbd) (parts : RawParts) → factors_broken dbd parts.parts ≡ [] → numbers_broken parts ≡ [] → IsTrue (list_all (part_is_kept dbd.phdam) (parts_of dbd parts.parts))
 kept_parts dbd parts f n =
     all-order (part_is_kept dbd.phdam) high_below (map (part_of dbd) parts.parts)
-      (list_all-map (part_is_kept dbd.phdam) (part_of dbd) parts.parts ∙ two_tests (λ p. factors_fit dbd.phdam (part_of dbd p)) (λ p. number_fits p.number) parts.parts (kept_factors dbd parts.parts f) (kept_numbers parts n))
+    (list_all-map (part_is_kept dbd.phdam) (part_of dbd) parts.parts ∙ two_tests (λ p. factors_fit dbd.phdam (part_of dbd p)) (λ p. number_fits p.number) parts.parts (kept_factors dbd parts.parts f) (kept_numbers parts n))
 
 -- ---- counts
 
@@ -136,13 +136,13 @@ kept_counts raw e some =
     let mp = length-map raw.parts.parts (part_of raw.dbd) in
     let z = eqb-false (length raw.parts.parts) 0 (not_broken _ _ p.0) in
     let levels : list_all (λ t. nat_le (level_of (types_of types) t.0) 15) (enumerate_from 1 (types_of types)) ≡ true =
-        numbered-map (λ (t : ℕ × SegType). nat_le (level_of (types_of types) t.0) 15) (seg_type types) 1 types
-        ∙ all_weaker _ (λ (t : ℕ × RawType). nat_le (level_of (types_of types) t.0) 15) (λ t h. not_above _ h) (enumerate_from 1 types)
-            (all_kept (λ (t : ℕ × RawType). nat_lt 15 (level_of (types_of types) t.0)) (λ t. statement t.1.line) (enumerate_from 1 types) d.1) in
+    numbered-map (λ (t : ℕ × SegType). nat_le (level_of (types_of types) t.0) 15) (seg_type types) 1 types
+    ∙ all_weaker _ (λ (t : ℕ × RawType). nat_le (level_of (types_of types) t.0) 15) (λ t h. not_above _ h) (enumerate_from 1 types)
+    (all_kept (λ (t : ℕ × RawType). nat_lt 15 (level_of (types_of types) t.0)) (λ t. statement t.1.line) (enumerate_from 1 types) d.1) in
     let fields : list_all (λ t. nat_le (length t.fields) 255) (types_of types) ≡ true =
-        list_all-map (λ (t : SegType). nat_le (length t.fields) 255) (seg_type types) types
-        ∙ each_nil (λ t. passing 255 (map (λ f. statement f.line) t.fields)) (λ (t : RawType). nat_le (length (map field_of t.fields)) 255)
-            (λ t h. let k = few_of 255 (λ f. statement f.line) t.fields h in let m = length-map t.fields field_of in le-leb (length (map field_of t.fields)) 255 (omega (arith, k, m))) types c.1 in
+    list_all-map (λ (t : SegType). nat_le (length t.fields) 255) (seg_type types) types
+    ∙ each_nil (λ t. passing 255 (map (λ f. statement f.line) t.fields)) (λ (t : RawType). nat_le (length (map field_of t.fields)) 255)
+    (λ t h. let k = few_of 255 (λ f. statement f.line) t.fields h in let m = length-map t.fields field_of in le-leb (length (map field_of t.fields)) 255 (omega (arith, k, m))) types c.1 in
     let l = types_of types in
     let is = indexes_of (types_of types) raw.dbd.indexes in
     let ps = parts_of raw.dbd raw.parts.parts in
@@ -179,10 +179,10 @@ targets_rise : (indexes : List IndexDef) → all_rise (λ (i : IndexDef) (j : In
 targets_rise [] = refl
 targets_rise (i ∷ indexes) =
     rise-put target_below (λ (i : IndexDef) (j : IndexDef). nat_le i.target j.target) i (λ j h. le-leb j.target i.target (let l = ltb-true j.target i.target h in omega (arith, l))) (in_order target_below indexes)
-      (all_true (λ j. target_below j i || nat_le i.target j.target) (λ j. at_or_above i.target j.target) (in_order target_below indexes)) (targets_rise indexes)
+    (all_true (λ j. target_below j i || nat_le i.target j.target) (λ j. at_or_above i.target j.target) (in_order target_below indexes)) (targets_rise indexes)
 
 pub kept_indexes : (types : List SegType) (indexes : List RawIndex) → indexes_broken types indexes ≡ [] → IsTrue (indexes_are_kept types (indexes_of types indexes))
 kept_indexes types indexes e =
     and_from _ _ (all-order (index_is_kept types) target_below (filter_map (index_of types) indexes)
-      (sound_indexes types indexes (all_sound (λ i. option_map_or (index_is_kept types) (index_of types i) false) (λ i. statement i.line) indexes e)))
-      (targets_rise (filter_map (index_of types) indexes))
+    (sound_indexes types indexes (all_sound (λ i. option_map_or (index_is_kept types) (index_of types i) false) (λ i. statement i.line) indexes e)))
+    (targets_rise (filter_map (index_of types) indexes))

@@ -53,8 +53,8 @@ pub kept_parents : (types : List RawType) → unknown_parents types ≡ [] → m
 kept_parents types a b =
     numbered-map (λ t. parent_is_before t.0 t.1.parent) (seg_type types) 1 types
     ∙ all_both _ _ (λ (t : ℕ × RawType). parent_is_before t.0 (option_and_then (code_of types) t.1.parent)) (λ t h g. parent_kept types t.0 t.1.parent h g) (enumerate_from 1 types)
-        (all_kept (λ (t : ℕ × RawType). is_unknown_parent types t.0 t.1.parent) (λ t. statement t.1.line) (enumerate_from 1 types) a)
-        (all_kept (λ (t : ℕ × RawType). cond (t.0 == 1) (is_some t.1.parent) (is_none t.1.parent)) (λ t. statement t.1.line) (enumerate_from 1 types) b)
+    (all_kept (λ (t : ℕ × RawType). is_unknown_parent types t.0 t.1.parent) (λ t. statement t.1.line) (enumerate_from 1 types) a)
+    (all_kept (λ (t : ℕ × RawType). cond (t.0 == 1) (is_some t.1.parent) (is_none t.1.parent)) (λ t. statement t.1.line) (enumerate_from 1 types) b)
 
 pub nil_at : {X Y : Type 0} (f : X → List Y) (xs : List X) (i : ℕ) (x : X) → flat_map f xs ≡ [] → i < length xs → x ≡ get_or xs i x → f x ≡ []
 nil_at f [] i x e l r = absurd (omega arith)

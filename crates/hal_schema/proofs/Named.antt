@@ -12,7 +12,7 @@ behind found f None = refl
 behind found f (Some fs) = ap Some (sym (append_assoc found (f ∷ []) fs))
 
 pub fields_more : (fields : List Field) (names : List (List ℕ)) (i : ℕ) (name : List ℕ) (found : List Field) (f : Field) → i < length names → name ≡ get_or names i name → find (λ f. bytes_eq f.name name) fields ≡ Some f
-  → option_map (λ rest. found ++ rest) (fields_named fields (drop i names)) ≡ option_map (λ rest. (found ++ f ∷ []) ++ rest) (fields_named fields (drop (i + 1) names))
+    → option_map (λ rest. found ++ rest) (fields_named fields (drop i names)) ≡ option_map (λ rest. (found ++ f ∷ []) ++ rest) (fields_named fields (drop (i + 1) names))
 fields_more fields names i name found f l e at =
     let rest = fields_named fields (drop (i + 1) names) in
     let step = at_drop_more (fields_named fields) names i name l in
@@ -20,7 +20,7 @@ fields_more fields names i name found f l e at =
     ap (option_map (λ rest. found ++ rest)) (step ∙ ap here (sym e) ∙ ap (option_and_then (λ f. option_map (λ fs. f ∷ fs) rest)) at) ∙ behind found f rest
 
 pub fields_missing : (fields : List Field) (names : List (List ℕ)) (i : ℕ) (name : List ℕ) (found : List Field) → i < length names → name ≡ get_or names i name → find (λ f. bytes_eq f.name name) fields ≡ None
-  → option_map (λ rest. found ++ rest) (fields_named fields (drop i names)) ≡ None
+    → option_map (λ rest. found ++ rest) (fields_named fields (drop i names)) ≡ None
 fields_missing fields names i name found l e at =
     let rest = fields_named fields (drop (i + 1) names) in
     let step = at_drop_more (fields_named fields) names i name l in

@@ -14,7 +14,7 @@ enumerate_more (x ∷ xs) n (suc i) d l =
 
 -- one more item, whose number is one more than its place
 pub numbered_more : {X A : Type 0} (g : ℕ × X → List A) (xs : List X) (i : ℕ) (x : X) → i < length xs → x ≡ get_or xs i x
-  → flat_map g (enumerate_from 1 (take (i + 1) xs)) ≡ flat_map g (enumerate_from 1 (take i xs)) ++ g (i + 1, x)
+    → flat_map g (enumerate_from 1 (take (i + 1) xs)) ≡ flat_map g (enumerate_from 1 (take i xs)) ++ g (i + 1, x)
 numbered_more g xs i x l e =
     let s : i + 1 ≡ suc i = omega arith in
     let m : 1 + i ≡ i + 1 = omega arith in

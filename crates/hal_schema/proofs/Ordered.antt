@@ -30,7 +30,7 @@ drop_before xs n x z l e =
     drop_more xs (n - 1) x (omega arith) ∙ ap (λ y. y ∷ drop (n - 1 + 1) xs) (sym e) ∙ ap (λ k. x ∷ drop k xs) m
 
 pub parts_step : (dbd : RawDbd) (parts : List RawPart) (left : ℕ) (p : RawPart) (list slice new : List PartDef) (part : PartDef) (high : List ℕ) (at : ℕ) → 0 < left → left ≤ length parts → p ≡ get_or parts (left - 1) p
-  → list ≡ parts_of dbd (drop left parts) → part ≡ part_of dbd p → slice ≡ list → high ≡ part.high → at ≡ prefix_len (λ q. is_lt (key_cmp q.high high)) slice → new ≡ insert list at part → new ≡ parts_of dbd (drop (left - 1) parts)
+    → list ≡ parts_of dbd (drop left parts) → part ≡ part_of dbd p → slice ≡ list → high ≡ part.high → at ≡ prefix_len (λ q. is_lt (key_cmp q.high high)) slice → new ≡ insert list at part → new ≡ parts_of dbd (drop (left - 1) parts)
 parts_step dbd parts left p list slice new part high at z l r e is s h a n =
     let place : at ≡ prefix_len (λ q. high_below q part) list = a ∙ ap (λ k. prefix_len (λ (q : PartDef). is_lt (key_cmp q.high k)) slice) h ∙ ap (prefix_len (λ q. high_below q part)) s in
     n ∙ ap (λ k. insert list k part) place ∙ sym (put-insert high_below part list)
@@ -38,7 +38,7 @@ parts_step dbd parts left p list slice new part high at z l r e is s h a n =
     ∙ sym (ap (parts_of dbd) (drop_before parts left p z l r))
 
 pub indexes_step : (types : List SegType) (indexes : List RawIndex) (left : ℕ) (i : RawIndex) (list slice new : List IndexDef) (index : IndexDef) (at : ℕ) → 0 < left → left ≤ length indexes → i ≡ get_or indexes (left - 1) i
-  → list ≡ indexes_of types (drop left indexes) → index_of types i ≡ Some index → slice ≡ list → at ≡ prefix_len (λ j. target_below j index) slice → new ≡ insert list at index → new ≡ indexes_of types (drop (left - 1) indexes)
+    → list ≡ indexes_of types (drop left indexes) → index_of types i ≡ Some index → slice ≡ list → at ≡ prefix_len (λ j. target_below j index) slice → new ≡ insert list at index → new ≡ indexes_of types (drop (left - 1) indexes)
 indexes_step types indexes left i list slice new index at z l r e is s a n =
     let place : at ≡ prefix_len (λ j. target_below j index) list = a ∙ ap (prefix_len (λ j. target_below j index)) s in
     n ∙ ap (λ k. insert list k index) place ∙ sym (put-insert target_below index list) ∙ ap (put_in_order target_below index) e

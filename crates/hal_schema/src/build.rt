@@ -10,8 +10,8 @@ ghost use Rattle.hal_schema.specs.Rules.{first_fault, sizes_broken, sizes_in};
 use crate::built::built;
 use crate::rules::{anch_of, code_of, index_of, rbn_of};
 use crate::{
-    Field, IndexDef, KeyField, PartDef, RawDbd, RawField, RawIndex, RawPart, RawSchema, RawType, Schema, SchemaFault,
-    SegType,
+    Field, IndexDef, KeyField, PartDef, RawDbd, RawField, RawIndex, RawPart, RawSchema, RawType,
+    Schema, SchemaFault, SegType,
 };
 use hal_base::{List, Memory};
 use std::alloc::Global;
@@ -118,7 +118,11 @@ fn build_field(bytes: u32, f: &RawField) -> Field
 }
 
 /// The indexes by the codes of their targets, under one target in raw order.
-pub(crate) fn build_indexes(alloc: Global, types: &[SegType], indexes: &[RawIndex]) -> Result<List<IndexDef>, Memory>
+pub(crate) fn build_indexes(
+    alloc: Global,
+    types: &[SegType],
+    indexes: &[RawIndex],
+) -> Result<List<IndexDef>, Memory>
     requires { length types.now ≤ 255 }
     ensures { IfOk result (λ list. list ≡ indexes_of types.now indexes.now) }
 {
@@ -146,7 +150,11 @@ fn targets_below(indexes: &[IndexDef], target: u8) -> usize
 }
 
 /// The partitions by their high keys.
-pub(crate) fn build_parts(alloc: Global, dbd: &RawDbd, parts: &[RawPart]) -> Result<List<PartDef>, Memory>
+pub(crate) fn build_parts(
+    alloc: Global,
+    dbd: &RawDbd,
+    parts: &[RawPart],
+) -> Result<List<PartDef>, Memory>
     requires fit { IsTrue (list_all (λ p. factors_fit dbd.now.phdam (part_of dbd.now p)) parts.now) }
     requires numbers { IsTrue (list_all (λ p. number_fits p.number) parts.now) }
     ensures { IfOk result (λ list. list ≡ parts_of dbd.now parts.now) }

@@ -90,7 +90,11 @@ fn sooner(first: Option<Place>, place: Place) -> Option<Place>
 {
     match first {
         None => Some(place),
-        Some(before) => Some(if is_at_or_before(before, place) { before } else { place }),
+        Some(before) => Some(if is_at_or_before(before, place) {
+            before
+        } else {
+            place
+        }),
     }
 }
 

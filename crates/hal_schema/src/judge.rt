@@ -27,7 +27,11 @@ pub(crate) fn judge_statements(alloc: Global, raw: &RawSchema) -> Result<(), Sch
 }
 
 /// Looks at rules 9 to 12, over the types that the definition says.
-pub(crate) fn judge_rest(alloc: Global, raw: &RawSchema, types: &[SegType]) -> Result<(), SchemaFault>
+pub(crate) fn judge_rest(
+    alloc: Global,
+    raw: &RawSchema,
+    types: &[SegType],
+) -> Result<(), SchemaFault>
     requires same { types.now ≡ types_of raw.now.dbd.types }
     requires some { 0 < length types.now }
     requires few { length types.now ≤ 255 }

@@ -4,3 +4,6 @@
 mod roots;
 
 pub use roots::{anchor, root_cmp, root_order_is_total, select};
+
+#[cfg(test)]
+mod tests;

@@ -13,7 +13,11 @@ use hal_base::{List, Memory};
 use std::alloc::Global;
 
 /// More than 255 types, 15 levels, 255 fields in a segment or 16 indexes, or not 1 to 100 partitions.
-pub(crate) fn counts_passed(alloc: Global, places: &mut List<Place>, raw: &RawSchema) -> Result<(), Memory>
+pub(crate) fn counts_passed(
+    alloc: Global,
+    places: &mut List<Place>,
+    raw: &RawSchema,
+) -> Result<(), Memory>
     requires { IsTrue (parents_are_before (types_of raw.now.dbd.types)) }
     ensures { OnOk result (places.new ≡ places.old ++ counts_passed raw.now) }
 {
@@ -21,17 +25,33 @@ pub(crate) fn counts_passed(alloc: Global, places: &mut List<Place>, raw: &RawSc
     part_counts_passed(alloc, places, raw.parts.parts.as_slice())
 }
 
-fn statement_counts_passed(alloc: Global, places: &mut List<Place>, dbd: &RawDbd) -> Result<(), Memory>
+fn statement_counts_passed(
+    alloc: Global,
+    places: &mut List<Place>,
+    dbd: &RawDbd,
+) -> Result<(), Memory>
     requires { IsTrue (parents_are_before (types_of dbd.now.types)) }
     ensures { OnOk result (places.new ≡ places.old ++ statement_counts_passed dbd.now) }
 {
-    passing(places, 255, type_places(alloc, dbd.types.as_slice())?.as_slice())?;
+    passing(
+        places,
+        255,
+        type_places(alloc, dbd.types.as_slice())?.as_slice(),
+    )?;
     levels_passed(places, dbd.types.as_slice())?;
     fields_passed(alloc, places, dbd.types.as_slice())?;
-    passing(places, 16, index_places(alloc, dbd.indexes.as_slice())?.as_slice())
+    passing(
+        places,
+        16,
+        index_places(alloc, dbd.indexes.as_slice())?.as_slice(),
+    )
 }
 
-fn part_counts_passed(alloc: Global, places: &mut List<Place>, parts: &[RawPart]) -> Result<(), Memory>
+fn part_counts_passed(
+    alloc: Global,
+    places: &mut List<Place>,
+    parts: &[RawPart],
+) -> Result<(), Memory>
     ensures { OnOk result (places.new ≡ places.old ++ part_counts_passed parts.now) }
 {
     note(places, parts.is_empty(), partition(0))?;
@@ -52,7 +72,11 @@ fn fields_passed(alloc: Global, places: &mut List<Place>, types: &[RawType]) -> 
     ensures { OnOk result (places.new ≡ places.old ++ flat_map (λ t. passing 255 (map (λ f. statement f.line) t.fields)) types.now) }
 {
     for t in types {
-        passing(places, 255, field_places(alloc, t.fields.as_slice())?.as_slice())?;
+        passing(
+            places,
+            255,
+            field_places(alloc, t.fields.as_slice())?.as_slice(),
+        )?;
     }
     Ok(())
 }

@@ -44,7 +44,11 @@ fn is_sound(alloc: Global, types: &[SegType], i: &RawIndex) -> Result<bool, Memo
 }
 
 /// The index over these types, none where a name is unknown.
-pub(crate) fn index_of(alloc: Global, types: &[SegType], i: &RawIndex) -> Result<Option<IndexDef>, Memory>
+pub(crate) fn index_of(
+    alloc: Global,
+    types: &[SegType],
+    i: &RawIndex,
+) -> Result<Option<IndexDef>, Memory>
     requires { length types.now ≤ 255 }
     ensures index { IfOk result (λ index. index ≡ index_of types.now i.now) }
     ensures source { IfOk result (λ index. IfSome index (λ i. (0 < i.source) × (i.source ≤ length types.now))) }
@@ -86,7 +90,11 @@ fn code_named(types: &[SegType], name: Name8) -> Option<u8>
     None
 }
 
-fn fields_named(alloc: Global, fields: &[Field], names: &[Name8]) -> Result<Option<List<Field>>, Memory>
+fn fields_named(
+    alloc: Global,
+    fields: &[Field],
+    names: &[Name8],
+) -> Result<Option<List<Field>>, Memory>
     ensures { IfOk result (λ found. found ≡ fields_named fields.now names.now) }
 {
     let mut found = List::new(alloc);

@@ -16,14 +16,32 @@ pub struct Named {
 }
 
 /// A name or a partition number stands twice.
-pub(crate) fn names_repeated(alloc: Global, places: &mut List<Place>, raw: &RawSchema) -> Result<(), Memory>
+pub(crate) fn names_repeated(
+    alloc: Global,
+    places: &mut List<Place>,
+    raw: &RawSchema,
+) -> Result<(), Memory>
     ensures { OnOk result (places.new ≡ places.old ++ names_repeated raw.now) }
 {
-    names_twice(places, type_names(alloc, raw.dbd.types.as_slice())?.as_slice())?;
-    names_twice(places, index_names(alloc, raw.dbd.indexes.as_slice())?.as_slice())?;
-    names_twice(places, part_names(alloc, raw.parts.parts.as_slice())?.as_slice())?;
+    names_twice(
+        places,
+        type_names(alloc, raw.dbd.types.as_slice())?.as_slice(),
+    )?;
+    names_twice(
+        places,
+        index_names(alloc, raw.dbd.indexes.as_slice())?.as_slice(),
+    )?;
+    names_twice(
+        places,
+        part_names(alloc, raw.parts.parts.as_slice())?.as_slice(),
+    )?;
     numbers_twice(places, raw.parts.parts.as_slice())?;
-    fields_twice(alloc, places, raw.dbd.types.as_slice(), raw.dbd.indexes.as_slice())
+    fields_twice(
+        alloc,
+        places,
+        raw.dbd.types.as_slice(),
+        raw.dbd.indexes.as_slice(),
+    )
 }
 
 fn type_names(alloc: Global, types: &[RawType]) -> Result<List<Named>, Memory>
@@ -146,7 +164,11 @@ fn numbers_like(places: &mut List<Place>, p: &RawPart, rest: &[RawPart]) -> Resu
     ensures { OnOk result (places.new ≡ places.old ++ flat_map (λ q. when (same_number p.now q) (later (partition p.now.place) (partition q.place))) rest.now) }
 {
     for q in rest {
-        note(places, p.number == q.number, later(partition(p.place), partition(q.place)))?;
+        note(
+            places,
+            p.number == q.number,
+            later(partition(p.place), partition(q.place)),
+        )?;
     }
     Ok(())
 }

@@ -13,7 +13,11 @@ pub(crate) fn unknown_parents(places: &mut List<Place>, types: &[RawType]) -> Re
     ensures { OnOk result (places.new ≡ places.old ++ unknown_parents types.now) }
 {
     for (i, t) in types.iter().enumerate() {
-        note(places, is_unknown_parent(types, i + 1, t.parent), statement(t.line))?;
+        note(
+            places,
+            is_unknown_parent(types, i + 1, t.parent),
+            statement(t.line),
+        )?;
     }
     Ok(())
 }

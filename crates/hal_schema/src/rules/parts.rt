@@ -10,7 +10,11 @@ use crate::{Place, RawDbd, RawPart, RawParts, SegType};
 use hal_base::{List, Memory, Name8};
 
 /// A high key hasn't the root key's length, or two are equal.
-pub(crate) fn highs_broken(places: &mut List<Place>, types: &[SegType], parts: &[RawPart]) -> Result<(), Memory>
+pub(crate) fn highs_broken(
+    places: &mut List<Place>,
+    types: &[SegType],
+    parts: &[RawPart],
+) -> Result<(), Memory>
     requires { 0 < length types.now }
     ensures { OnOk result (places.new ≡ places.old ++ highs_broken types.now parts.now) }
 {
@@ -22,7 +26,11 @@ fn highs_not_long(places: &mut List<Place>, bytes: u16, parts: &[RawPart]) -> Re
     ensures { OnOk result (places.new ≡ places.old ++ flat_map (λ p. when (not (high_is_long bytes p)) (partition p.place)) parts.now) }
 {
     for p in parts {
-        note(places, p.high.len() != usize::from(bytes), partition(p.place))?;
+        note(
+            places,
+            p.high.len() != usize::from(bytes),
+            partition(p.place),
+        )?;
     }
     Ok(())
 }
@@ -40,13 +48,21 @@ fn highs_like(places: &mut List<Place>, p: &RawPart, rest: &[RawPart]) -> Result
     ensures { OnOk result (places.new ≡ places.old ++ flat_map (λ q. when (same_high p.now q) (later (partition p.now.place) (partition q.place))) rest.now) }
 {
     for q in rest {
-        note(places, p.high == q.high, later(partition(p.place), partition(q.place)))?;
+        note(
+            places,
+            p.high == q.high,
+            later(partition(p.place), partition(q.place)),
+        )?;
     }
     Ok(())
 }
 
 /// PHDAM anchors aren't 1 to 1,000,000, fbff isn't 0 or 2 to 100, or fspf isn't 0 to 99.
-pub(crate) fn factors_broken(places: &mut List<Place>, dbd: &RawDbd, parts: &[RawPart]) -> Result<(), Memory>
+pub(crate) fn factors_broken(
+    places: &mut List<Place>,
+    dbd: &RawDbd,
+    parts: &[RawPart],
+) -> Result<(), Memory>
     ensures { OnOk result (places.new ≡ places.old ++ factors_broken dbd.now parts.now) }
 {
     for p in parts {
@@ -99,7 +115,11 @@ pub(crate) fn rbn_of(dbd: &RawDbd) -> u32
 pub(crate) fn numbers_broken(places: &mut List<Place>, parts: &RawParts) -> Result<(), Memory>
     ensures { OnOk result (places.new ≡ places.old ++ numbers_broken parts.now) }
 {
-    note(places, parts.blocks < 1 || parts.blocks > 65_536, partition(0))?;
+    note(
+        places,
+        parts.blocks < 1 || parts.blocks > 65_536,
+        partition(0),
+    )?;
     numbers_in(places, parts.parts.as_slice())
 }
 
@@ -107,7 +127,11 @@ fn numbers_in(places: &mut List<Place>, parts: &[RawPart]) -> Result<(), Memory>
     ensures { OnOk result (places.new ≡ places.old ++ flat_map (λ p. when (not (number_fits p.number)) (partition p.place)) parts.now) }
 {
     for p in parts {
-        note(places, p.number < 1 || p.number > 32_767, partition(p.place))?;
+        note(
+            places,
+            p.number < 1 || p.number > 32_767,
+            partition(p.place),
+        )?;
     }
     Ok(())
 }

@@ -92,11 +92,19 @@ fn second_keys(places: &mut List<Place>, fields: &[RawField]) -> Result<(), Memo
     Ok(())
 }
 
-fn second_keys_after(places: &mut List<Place>, f: &RawField, rest: &[RawField]) -> Result<(), Memory>
+fn second_keys_after(
+    places: &mut List<Place>,
+    f: &RawField,
+    rest: &[RawField],
+) -> Result<(), Memory>
     ensures { OnOk result (places.new ≡ places.old ++ flat_map (λ g. when (both_sequence f.now g) (later (statement f.now.line) (statement g.line))) rest.now) }
 {
     for g in rest {
-        note(places, f.seq > 0 && g.seq > 0, later(statement(f.line), statement(g.line)))?;
+        note(
+            places,
+            f.seq > 0 && g.seq > 0,
+            later(statement(f.line), statement(g.line)),
+        )?;
     }
     Ok(())
 }

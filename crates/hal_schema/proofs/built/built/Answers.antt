@@ -56,22 +56,22 @@ invariant_of-result c =
     let rest = c.in_ok-judge_rest.ensures.kept in
     let T : c.in_ok-types.types ≡ types_of raw.dbd.types = c.in_ok-types.ensures ∙ ap types_of c.as_slice.ensures in
     let I : c.in_ok-indexes.indexes ≡ indexes_of (types_of raw.dbd.types) raw.dbd.indexes =
-        c.in_ok-indexes.ensures ∙ ap (λ ts. indexes_of ts c.as_slice-4.result.now) (c.as_slice-3.ensures ∙ T) ∙ ap (indexes_of (types_of raw.dbd.types)) c.as_slice-4.ensures in
+    c.in_ok-indexes.ensures ∙ ap (λ ts. indexes_of ts c.as_slice-4.result.now) (c.as_slice-3.ensures ∙ T) ∙ ap (indexes_of (types_of raw.dbd.types)) c.as_slice-4.ensures in
     let P : c.in_ok-parts.parts ≡ parts_of raw.dbd raw.parts.parts = c.in_ok-parts.ensures ∙ ap (parts_of raw.dbd) c.as_slice-5.ensures in
     record {
       parents = subst (λ ts. parents_are_before ts ≡ true) (sym T) (kept_parents raw.dbd.types kept.parents kept.roots);
       type_names = subst (λ ts. type_names_differ ts ≡ true) (sym T) (kept_type_names raw kept.names);
       counts = subst (λ ts. counts_are_kept ts c.in_ok-indexes.indexes c.in_ok-parts.parts ≡ true) (sym T)
-        (subst (λ is. counts_are_kept (types_of raw.dbd.types) is c.in_ok-parts.parts ≡ true) (sym I)
-        (subst (λ ps. counts_are_kept (types_of raw.dbd.types) (indexes_of (types_of raw.dbd.types) raw.dbd.indexes) ps ≡ true) (sym P) (kept_counts raw kept.counts c.requires)));
+          (subst (λ is. counts_are_kept (types_of raw.dbd.types) is c.in_ok-parts.parts ≡ true) (sym I)
+          (subst (λ ps. counts_are_kept (types_of raw.dbd.types) (indexes_of (types_of raw.dbd.types) raw.dbd.indexes) ps ≡ true) (sym P) (kept_counts raw kept.counts c.requires)));
       fields = subst (λ ts. fields_fit ts ≡ true) (sym T) (kept_fields raw.dbd.types kept.sizes);
       keys = subst (λ ts. keys_are_fields ts ≡ true) (sym T) (kept_keys raw.dbd.types kept.sequence);
       root_key = subst (λ ts. root_key_is_unique ts ≡ true) (sym T) (kept_root_key raw.dbd.types c.requires kept.root_key);
       letters = subst (λ ts. letters_are_known ts ≡ true) (sym T) (kept_letters raw.dbd.types kept.letters);
       kept_indexes = subst (λ ts. indexes_are_kept ts c.in_ok-indexes.indexes ≡ true) (sym T)
-        (subst (λ is. indexes_are_kept (types_of raw.dbd.types) is ≡ true) (sym I) (kept_indexes (types_of raw.dbd.types) raw.dbd.indexes rest.indexes));
+          (subst (λ is. indexes_are_kept (types_of raw.dbd.types) is ≡ true) (sym I) (kept_indexes (types_of raw.dbd.types) raw.dbd.indexes rest.indexes));
       highs = subst (λ ts. highs_rise ts c.in_ok-parts.parts ≡ true) (sym T)
-        (subst (λ ps. highs_rise (types_of raw.dbd.types) ps ≡ true) (sym P) (kept_highs raw.dbd (types_of raw.dbd.types) raw.parts.parts rest.highs));
+          (subst (λ ps. highs_rise (types_of raw.dbd.types) ps ≡ true) (sym P) (kept_highs raw.dbd (types_of raw.dbd.types) raw.parts.parts rest.highs));
       kept_parts = subst (λ ps. list_all (part_is_kept raw.dbd.phdam) ps ≡ true) (sym P) (kept_parts raw.dbd raw.parts rest.factors rest.numbers);
       kept_blocks = kept_blocks raw.parts rest.numbers;
     }
