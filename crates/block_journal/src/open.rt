@@ -5,7 +5,8 @@ ghost use Rattle.hal_base.specs.Room.{HasRoom};
 ghost use Rattle.hal_base.specs.Stops.{LeavesOnly};
 ghost use Rattle.block_journal.specs.Device.{SameTold, IsExact};
 ghost use Rattle.block_journal.specs.Opening.{ReadsBlock, ReadsBlocks, IsReady};
-ghost use Rattle.block_journal.specs.Redo.{journal_start, is_open};
+ghost use Rattle.block_journal.specs.Redo.{blocks_at, journal_start, is_open};
+ghost use Rattle.block_journal.specs.Stands.{Stands};
 
 use crate::device::place_of;
 use crate::protocol::GATE;
@@ -34,6 +35,7 @@ pub(crate) fn make_ready<T: Site>(site: &mut T, first: u64, count: u32) -> Resul
     requires near { first ≤ 2 ^ 30 }
     ensures ready { OnOk result (IsReady first count (T.image site.old) (T.image site.new)) }
     ensures exact { OnOk result (IsExact (T.image site.new) (T.left_at site.new (T.moment site.new))) }
+    ensures told { SameTold (T.image site.old) (T.image site.new) }
     ensures cause { HasCause (T.disk_faults site.old) (T.disk_faults site.new) result }
     ensures said { T.said site.new ≡ T.said site.old }
     ensures say_faults { T.say_faults site.new ≡ T.say_faults site.old }
@@ -104,4 +106,32 @@ pub(crate) fn read_blocks<T: Site>(
         }
     }
     Ok(blocks)
+}
+
+/// Makes the image ready, and reads its blocks. An image whose gate is open is refused as damaged.
+pub(crate) fn load<T: Site>(
+    alloc: Global,
+    site: &mut T,
+    first: u64,
+    count: u32,
+) -> Result<Vec<[u8; BLOCK]>, OpenWhy>
+    requires behind { 8192 ≤ first }
+    requires near { first ≤ 2 ^ 30 }
+    ensures stands { IfOk result (λ kept. Stands first count kept.items (T.image site.new) (T.left_at site.new (T.moment site.new))) }
+    ensures blocks { IfOk result (λ kept. (image : List ℕ) → T.image site.old ≡ Some image → kept.items ≡ blocks_at first count image) }
+    ensures count { IfOk result (λ kept. length kept.items ≡ count) }
+    ensures whole { IfOk result (λ kept. All (λ block. length block ≡ BLOCK) kept.items) }
+    ensures told { SameTold (T.image site.old) (T.image site.new) }
+    ensures cause { HasCauseFor (T.disk_faults site.old) (T.disk_faults site.new) result OpenWhy.DiskFault }
+    ensures said { T.said site.new ≡ T.said site.old }
+    ensures say_faults { T.say_faults site.new ≡ T.say_faults site.old }
+{
+    if make_ready(site, first, count).is_err() {
+        return Err(OpenWhy::DiskFault);
+    }
+    match read_gate(site) {
+        Err(_) => Err(OpenWhy::DiskFault),
+        Ok(true) => Err(OpenWhy::Damaged(1)),
+        Ok(false) => read_blocks(alloc, site, first, count),
+    }
 }
