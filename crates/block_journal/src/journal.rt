@@ -47,7 +47,7 @@ impl<T: Site> Journal<T> {
         requires multiple { first % 4096 ≡ 0 }
         requires behind { 8192 ≤ first }
         requires near { first ≤ 2 ^ 30 }
-        ensures opened { IfOk result (λ journal. IsOpened first count (T.image site) (T.image journal.site) journal.kept.items journal.staged.items journal.live) }
+        ensures opened { IfOk result (λ journal. IsOpened first count (T.image site) (T.image journal.site) journal.kept.items journal.staged.items journal.count journal.live) }
         ensures said { MatchResult result (λ journal. T.said journal.site ≡ T.said site) (λ fault. T.said fault.site ≡ T.said site) }
         ensures say_faults { MatchResult result (λ journal. T.say_faults journal.site ≡ T.say_faults site) (λ fault. T.say_faults fault.site ≡ T.say_faults site) }
         ensures later { MatchResult result (λ journal. T.disk_faults site ≤ T.disk_faults journal.site) (λ fault. T.disk_faults site ≤ T.disk_faults fault.site) }
@@ -68,7 +68,9 @@ impl<T: Site> Journal<T> {
     }
 
     /// The site, with no further call.
-    pub fn close(self) -> T {
+    pub fn close(self) -> T
+        ensures { result ≡ self.site }
+    {
         let Journal {
             site,
             first: _,
