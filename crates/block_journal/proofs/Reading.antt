@@ -37,7 +37,7 @@ ready_filled first count at None final at_is is short = record { long = λ z tol
 ready_filled first count at (Some x) final at_is is short = record {
   long = λ z told. subst (λ (z : List ℕ). first + 4096 * count ≤ length z) (some_is (written at (0 ∷ []) x) z (sym is ∙ told)) (omega (arith, at_is, length-written_max at (0 ∷ []) x));
   same = λ y z was told i.
-    ap (λ (l : List ℕ). get_or l i 0) (sym (some_is (written at (0 ∷ []) x) z (sym is ∙ told))) ∙ filled_same at x i (short x refl) ∙ ap (λ (l : List ℕ). get_or l i 0) (some_is x y was);
+      ap (λ (l : List ℕ). get_or l i 0) (sym (some_is (written at (0 ∷ []) x) z (sym is ∙ told))) ∙ filled_same at x i (short x refl) ∙ ap (λ (l : List ℕ). get_or l i 0) (some_is x y was);
 }
 
 -- a read of one byte that gave none
@@ -57,9 +57,11 @@ block_from at n buf (Some x) read long within = record { is = λ y told far. sub
     block far =
         let whole : n ≡ length buf = omega (arith, ap length read, length-take n buf, length-take (length buf) (drop at x), length-drop at x, long, within, far) in
         let same : buf ≡ take 4096 (drop at x) = sym (take_all n buf (omega (arith, whole))) ∙ read ∙ ap (λ (k : ℕ). take k (drop at x)) long in
-        sym (bytes_at-is at 4096 buf x long (record { byte = λ i lt.
-          let near : i < 4096 = omega (arith, lt, long) in
-          sym (ap (λ (l : List ℕ). get_or l i 0) same ∙ get_or-take 4096 (drop at x) i 0 near ∙ get_or-drop at x i 0) }))
+        sym (bytes_at-is at 4096 buf x long (record {
+          byte = λ i lt.
+              let near : i < 4096 = omega (arith, lt, long) in
+              sym (ap (λ (l : List ℕ). get_or l i 0) same ∙ get_or-take 4096 (drop at x) i 0 near ∙ get_or-drop at x i 0);
+        }))
 
 blocks_suc : (at n : ℕ) (image : List ℕ) → blocks_at at (suc n) image ≡ blocks_at at n image ++ bytes_at (at + 4096 * n) 4096 image ∷ []
 unfolding blocks_at

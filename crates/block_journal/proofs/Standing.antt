@@ -104,12 +104,12 @@ none_is n is = cc
 room_within : (needed : ℕ) (r : ℕ × ℕ) (new : Option (ℕ × ℕ)) (before now : ℕ) (P : ℕ → Type 0) (Q : ℕ × ℕ → Type 0) → HasRoom (Some r) new before now Q → ((room : ℕ × ℕ) → needed ≤ room.0 → P room.1 → Q room) → nat_le needed r.0 ≡ true → HasSayRoom (say_room needed (Some r)) (say_room needed new) before now P
 room_within needed r new before now P Q room so enough = record {
   stays = λ n is.
-    let t = room.stays r refl in
-    let n_is : r.1 ≡ n = number_is r.1 n (sym (ap (λ (b : Bool). cond b (Some r.1) None) enough) ∙ is) in
-    (t.0.1, ap (say_room needed) t.1 ∙ ap (λ (b : Bool). cond b (Some t.0.1) None) (le-leb needed t.0.0 (omega (arith, leb-true needed r.0 enough, t.2))), omega (arith, n_is, t.3));
+      let t = room.stays r refl in
+      let n_is : r.1 ≡ n = number_is r.1 n (sym (ap (λ (b : Bool). cond b (Some r.1) None) enough) ∙ is) in
+      (t.0.1, ap (say_room needed) t.1 ∙ ap (λ (b : Bool). cond b (Some t.0.1) None) (le-leb needed t.0.0 (omega (arith, leb-true needed r.0 enough, t.2))), omega (arith, n_is, t.3));
   quiet = λ n is fits.
-    let n_is : r.1 ≡ n = number_is r.1 n (sym (ap (λ (b : Bool). cond b (Some r.1) None) enough) ∙ is) in
-    room.quiet r refl (so r (leb-true needed r.0 enough) (subst P (sym n_is) fits));
+      let n_is : r.1 ≡ n = number_is r.1 n (sym (ap (λ (b : Bool). cond b (Some r.1) None) enough) ∙ is) in
+      room.quiet r refl (so r (leb-true needed r.0 enough) (subst P (sym n_is) fits));
 }
 
 room_short : (needed : ℕ) (r : ℕ × ℕ) (new : Option (ℕ × ℕ)) (before now : ℕ) (P : ℕ → Type 0) → nat_le needed r.0 ≡ false → HasSayRoom (say_room needed (Some r)) (say_room needed new) before now P
@@ -133,9 +133,11 @@ pub say_stands : (first count : ℕ) (kept : List (List ℕ)) (old new : Option 
 say_stands first count kept old new text a b past at stands is only = record {
   settled = λ z told. stands.settled z (sym is ∙ told);
   blocks = λ z told. stands.blocks z (sym is ∙ told);
-  exact = record { only = λ z told x s left.
-    let from = leaves-now only (said_before (past a) text) x s left in
-    stands.exact.only z (sym is ∙ told) x from.0 from.3 };
+  exact = record {
+    only = λ z told x s left.
+        let from = leaves-now only (said_before (past a) text) x s left in
+        stands.exact.only z (sym is ∙ told) x from.0 from.3;
+  };
 }
 
 told_append : (said : Option (List ℕ)) (old part s : List ℕ) → IsTold said old → s ≡ old ++ part → IsTold (append_known said part) s
@@ -178,8 +180,8 @@ pub load_stands : (first count : ℕ) (kept : List (List ℕ)) (old ready now la
     → LeavesOnly a b first_at second_at (first_at a) → LeavesOnly b c second_at last_at (second_at b) → Stands first count kept last (last_at c)
 load_stands first count kept old ready now last opened a b c first_at second_at last_at behind is_ready exact now_is last_is gate shut reads first_only second_only = record {
   settled = λ z told.
-    let long = is_ready.long z (back z told) in
-    record { long = long; closed = sym (gate z (back z told) (omega (arith, long, behind))) ∙ shut };
+      let long = is_ready.long z (back z told) in
+      record { long = long; closed = sym (gate z (back z told) (omega (arith, long, behind))) ∙ shut };
   blocks = λ z told. sym (reads.are z (sym last_is ∙ told) (is_ready.long z (back z told)));
   exact = record { only = λ z told x s left. exact.only z (back z told) x s (leaves-now first_only (λ x s left. left) x s (leaves-now second_only (λ x s left. left) x s left)) };
 }

@@ -47,12 +47,7 @@ fn write(image: &mut Vec<u8>, at: u64, content: &[u8]) -> Result<(), Memory> {
 }
 
 /// What a stop leaves of written bytes: these, or as many torn ones.
-fn stopped_content(
-    alloc: Global,
-    content: &[u8],
-    kept: bool,
-    torn: u8,
-) -> Result<Vec<u8>, Memory>
+fn stopped_content(alloc: Global, content: &[u8], kept: bool, torn: u8) -> Result<Vec<u8>, Memory>
     ensures { IfOk result (λ bytes. length bytes.items ≡ length content.now) }
 {
     if kept {

@@ -13,5 +13,5 @@ invariant-loop-number g l = record {
   stops : LeavesOnly (g.T.Site.moment l.fn.site) (g.T.Site.moment l.site) (g.T.Site.left_at l.fn.site) (g.T.Site.left_at l.site) (g.T.Site.left_at l.fn.site (g.T.Site.moment l.fn.site));
   faults : g.T.Site.disk_faults l.fn.site ≤ g.T.Site.disk_faults l.site;
   said : g.T.Site.said l.site ≡ g.T.Site.said l.fn.site;
-  say_faults : g.T.Site.say_faults l.site ≡ g.T.Site.say_faults l.fn.site
+  say_faults : g.T.Site.say_faults l.site ≡ g.T.Site.say_faults l.fn.site;
 }

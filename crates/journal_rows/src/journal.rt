@@ -36,6 +36,7 @@ fn a_stop_leaves_both_old_blocks_or_both_new_ones(rt: HostRuntime) -> Result<(),
     let alloc = rt.alloc();
     let site = MemSite::new(alloc, zeros(alloc)?, List::new(alloc));
     let mut journal = Journal::open(alloc, site, FIRST, 3).ok().ok_or("opened")?;
+    assert!(rt; journal.is_live());
     assert_eq!(rt; journal.count(), 3);
     journal.stage(0, &[7; BLOCK]).ok().ok_or("staged")?;
     assert!(rt; journal.is_live());
@@ -65,6 +66,7 @@ fn a_staged_block_is_kept_or_forgotten(rt: HostRuntime) -> Result<(), Fail> {
     let alloc = rt.alloc();
     let site = SureSite::new(alloc, zeros(alloc)?);
     let mut journal = Journal::open(alloc, site, FIRST, 3).ok().ok_or("opened")?;
+    assert!(rt; journal.is_live());
     assert_eq!(rt; journal.count(), 3);
     journal.stage(1, &[5; BLOCK]).ok().ok_or("staged")?;
     assert!(rt; journal.is_live());
