@@ -51,3 +51,7 @@ exact-synced {image} is only = record { only = λ told was bytes text left. let 
 pub if_ok : {T E P Q : Type 0} (result : Result T E) → OnOk result P → (P → Q) → OnOk result Q
 if_ok (Ok x) p so = so p
 if_ok (Err e) p so = tt
+
+pub any_ok : {T E P : Type 0} (result : Result T E) → P → OnOk result P
+any_ok (Ok x) p = p
+any_ok (Err e) p = tt

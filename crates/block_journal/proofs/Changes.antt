@@ -38,6 +38,7 @@ set_both k b xs ys same = ⊎_elim (inside) (past) (cases_lt k (length xs))
   where
     inside : k < length xs → get_or (set xs k b) k [] ≡ get_or (set ys k b) k []
     inside lt = get_or-set_same xs k b [] lt ∙ sym (get_or-set_same ys k b [] (omega (arith, same, lt)))
+
     past : length xs ≤ k → get_or (set xs k b) k [] ≡ get_or (set ys k b) k []
     past le =
         ap (λ (l : List (List ℕ)). get_or l k []) (set_past xs k b le) ∙ get_or_past xs k [] le
@@ -52,10 +53,11 @@ put_all-ext (c ∷ cs) xs ys same each =
   where
     at : (k : ℕ) → k ≡ c.number → IsNamed k cs ⊎ (get_or (set xs c.number c.content) k [] ≡ get_or (set ys c.number c.content) k [])
     at k is = inr (subst (λ (n : ℕ). get_or (set xs n c.content) k [] ≡ get_or (set ys n c.content) k []) is (set_both k c.content xs ys same))
+
     beside : (k : ℕ) → (k ≡ c.number → ⊥) → IsNamed k cs ⊎ (get_or (set xs c.number c.content) k [] ≡ get_or (set ys c.number c.content) k [])
     beside k ne = ⊎_elim (λ named. ⊎_elim (λ is. absurd (ne (sym is))) (λ among. inl among) named)
-      (λ is. inr (get_or-set_other xs c.number k c.content [] ne ∙ is ∙ sym (get_or-set_other ys c.number k c.content [] ne)))
-      (each k)
+        (λ is. inr (get_or-set_other xs c.number k c.content [] ne ∙ is ∙ sym (get_or-set_other ys c.number k c.content [] ne)))
+        (each k)
 
 -- a block that isn't changed stays
 pub put_all-other : (cs : List Change) (blocks : List (List ℕ)) (k : ℕ) → IsNamed k cs ⊎ (get_or (put_all cs blocks) k [] ≡ get_or blocks k [])
@@ -105,8 +107,10 @@ block_outside first k (c ∷ cs) = ⊎_elim (λ among. inl (inr among)) (λ rest
   where
     Rest : Type 0
     Rest = (i : ℕ) → first + 4096 * k ≤ i → i < first + 4096 * k + 4096 → IsOutside first cs i
+
     below : ((i : ℕ) → first + 4096 * k ≤ i → i < first + 4096 * k + 4096 → IsOutside first cs i) → c.number < k → IsNamed k (c ∷ cs) ⊎ ((i : ℕ) → first + 4096 * k ≤ i → i < first + 4096 * k + 4096 → IsOutside first (c ∷ cs) i)
     below rest lt = inr (λ i low high. (inr (omega (arith, lt, low)), rest i low high))
+
     above : ((i : ℕ) → first + 4096 * k ≤ i → i < first + 4096 * k + 4096 → IsOutside first cs i) → k < c.number → IsNamed k (c ∷ cs) ⊎ ((i : ℕ) → first + 4096 * k ≤ i → i < first + 4096 * k + 4096 → IsOutside first (c ∷ cs) i)
     above rest lt = inr (λ i low high. (inl (omega (arith, lt, high)), rest i low high))
 
@@ -117,6 +121,7 @@ put_all-same first n cs x y same = put_all-ext cs (blocks_at first n x) (blocks_
     inside : (k : ℕ) → ((i : ℕ) → first + 4096 * k ≤ i → i < first + 4096 * k + 4096 → IsOutside first cs i) → k < n → get_or (blocks_at first n x) k [] ≡ get_or (blocks_at first n y) k []
     inside k out lt =
         block_at first n k x lt ∙ bytes_at-same (first + 4096 * k) 4096 x y (record { byte = λ i low high. same.byte i (out i low high) }) ∙ sym (block_at first n k y lt)
+
     past : (k : ℕ) → n ≤ k → get_or (blocks_at first n x) k [] ≡ get_or (blocks_at first n y) k []
     past k le =
         get_or_past (blocks_at first n x) k [] (omega (arith, length-blocks_at first n x, le)) ∙ sym (get_or_past (blocks_at first n y) k [] (omega (arith, length-blocks_at first n y, le)))
@@ -128,17 +133,23 @@ blocks_at-written first n k b image lt whole long =
   where
     at : ℕ
     at = first + 4096 * k
+
     after : List ℕ
     after = written (first + 4096 * k) b image
+
     within : first + 4096 * k ≤ length image
     within = omega (arith, lt, long)
+
     is_block : bytes_at (first + 4096 * k) 4096 after ≡ b
     is_block = bytes_at-is (first + 4096 * k) 4096 b after whole (record { byte = λ i under. written_inside (first + 4096 * k) b image i within under })
+
     here : (j : ℕ) → j ≡ k → get_or (blocks_at first n after) j [] ≡ get_or (set (blocks_at first n image) k b) j []
     here j is = subst (λ (j : ℕ). get_or (blocks_at first n after) j [] ≡ get_or (set (blocks_at first n image) k b) j []) (sym is)
-      (block_at first n k after lt ∙ is_block ∙ sym (get_or-set_same (blocks_at first n image) k b [] (omega (arith, length-blocks_at first n image, lt))))
+        (block_at first n k after lt ∙ is_block ∙ sym (get_or-set_same (blocks_at first n image) k b [] (omega (arith, length-blocks_at first n image, lt))))
+
     same : (j i : ℕ) → (j ≡ k → ⊥) → first + 4096 * j ≤ i → i < first + 4096 * j + 4096 → get_or after i 0 ≡ get_or image i 0
     same j i ne low high = (written_outside (first + 4096 * k) b image within).byte i (⊎_elim (λ is. absurd (ne is)) (⊎_elim (λ less. inl (omega (arith, less, high))) (λ more. inr (omega (arith, more, low, whole)))) (cases_order j k))
+
     beside : (j : ℕ) → j < n → (j ≡ k → ⊥) → get_or (blocks_at first n after) j [] ≡ get_or (set (blocks_at first n image) k b) j []
     beside j below ne =
         block_at first n j after below ∙ bytes_at-same (first + 4096 * j) 4096 after image (record { byte = λ i low high. same j i ne low high }) ∙ sym (block_at first n j image below) ∙ sym (get_or-set_other (blocks_at first n image) k j b [] ne)
@@ -188,10 +199,14 @@ changes_at-is at count (c ∷ cs) image whole small holds =
     let all : length ((number ++ c.content) ++ rest) ≡ 4100 + length rest = omega (arith, length-append (number ++ c.content) rest, long) in
     let front : (i : ℕ) → i < 4100 → get_or image (at + i) 0 ≡ get_or (number ++ c.content) i 0 = λ i lt. holds.byte i (omega (arith, all, lt)) ∙ get_or_append_left (number ++ c.content) rest 0 i (omega (arith, long, lt)) in
     let is_number : bytes_at at 4 image ≡ number = bytes_at-is at 4 number image (length-number c.number) (record { byte = λ i lt. front i (omega (arith, lt, length-number c.number)) ∙ get_or_append_left number c.content 0 i lt }) in
-    let is_content : bytes_at (at + 4) 4096 image ≡ c.content = bytes_at-is (at + 4) 4096 c.content image whole.1 (record { byte = λ i lt.
-      ap (λ (k : ℕ). get_or image k 0) (omega arith) ∙ front (4 + i) (omega (arith, lt, whole.1)) ∙ get_or-append-add number c.content i 0 }) in
-    let is_rest : changes_at (at + 4100) (length cs) image ≡ cs = changes_at-is (at + 4100) count cs image whole.2 small (record { byte = λ i lt.
-      let past : 4100 + i ≡ length (number ++ c.content) + i = omega (arith, long) in
-      ap (λ (k : ℕ). get_or image k 0) (omega arith) ∙ holds.byte (4100 + i) (omega (arith, all, lt)) ∙ ap (λ (k : ℕ). get_or ((number ++ c.content) ++ rest) k 0) past ∙ get_or-append-add (number ++ c.content) rest i 0 }) in
+    let is_content : bytes_at (at + 4) 4096 image ≡ c.content = bytes_at-is (at + 4) 4096 c.content image whole.1 (record {
+      byte = λ i lt.
+          ap (λ (k : ℕ). get_or image k 0) (omega arith) ∙ front (4 + i) (omega (arith, lt, whole.1)) ∙ get_or-append-add number c.content i 0;
+    }) in
+    let is_rest : changes_at (at + 4100) (length cs) image ≡ cs = changes_at-is (at + 4100) count cs image whole.2 small (record {
+      byte = λ i lt.
+          let past : 4100 + i ≡ length (number ++ c.content) + i = omega (arith, long) in
+          ap (λ (k : ℕ). get_or image k 0) (omega arith) ∙ holds.byte (4100 + i) (omega (arith, all, lt)) ∙ ap (λ (k : ℕ). get_or ((number ++ c.content) ++ rest) k 0) past ∙ get_or-append-add (number ++ c.content) rest i 0;
+    }) in
     let number_is : from_be_bytes w32 (bytes_at at 4 image) ≡ c.number = ap (from_be_bytes w32) is_number ∙ from_be_bytes-to_be_bytes_4 c.number (omega (arith, whole.0, small)) in
     (λ i. record { number = number_is i; content = is_content i } ∷ is_rest i)

@@ -27,6 +27,7 @@ torn_outside at n old new within torn = record { byte = λ i where_is. ⊎_elim 
   where
     at_is : min at (length old) ≡ at
     at_is = omega (arith, within)
+
     front : take at new ≡ take at old
     front = ap (λ (k : ℕ). take k new) (sym at_is) ∙ torn.before
 
@@ -44,9 +45,10 @@ length-written at bytes image within =
 
 pub length-written_le : (at : ℕ) (bytes image : List ℕ) → at ≤ length image → (length image ≤ length (written at bytes image)) × (at + length bytes ≤ length (written at bytes image))
 length-written_le at bytes image le =
-    let e = ap length (written_is at bytes image le) in
-    (omega (arith, e, length-append (take at image) (bytes ++ drop (at + length bytes) image), length-append bytes (drop (at + length bytes) image), length-drop (at + length bytes) image, length-take-le at image le),
-     omega (arith, e, length-append (take at image) (bytes ++ drop (at + length bytes) image), length-append bytes (drop (at + length bytes) image), length-drop (at + length bytes) image, length-take-le at image le))
+    let e = ap length (written_is at bytes image le) in (
+      omega (arith, e, length-append (take at image) (bytes ++ drop (at + length bytes) image), length-append bytes (drop (at + length bytes) image), length-drop (at + length bytes) image, length-take-le at image le),
+      omega (arith, e, length-append (take at image) (bytes ++ drop (at + length bytes) image), length-append bytes (drop (at + length bytes) image), length-drop (at + length bytes) image, length-take-le at image le),
+    )
 
 pub written_inside : (at : ℕ) (bytes image : List ℕ) (i : ℕ) → at ≤ length image → i < length bytes → get_or (written at bytes image) (at + i) 0 ≡ get_or bytes i 0
 written_inside at bytes image i le lt =
@@ -62,12 +64,15 @@ written_outside at bytes image le = record { byte = λ i where_is. ⊎_elim (bef
   where
     n : ℕ
     n = length bytes
+
     front : length (take at image) ≡ at
     front = length-take-le at image le
+
     before : (i : ℕ) → i < at → get_or (written at bytes image) i 0 ≡ get_or image i 0
     before i lt =
         let lt_front : i < length (take at image) = omega (arith, front, lt) in
         ap (λ (l : List ℕ). get_or l i 0) (written_is at bytes image le) ∙ get_or_append_left (take at image) (bytes ++ drop (at + length bytes) image) 0 i lt_front ∙ get_or-take at image i 0 lt
+
     after : (i : ℕ) → at + length bytes ≤ i → get_or (written at bytes image) i 0 ≡ get_or image i 0
     after i past =
         let rest : List ℕ = drop (at + length bytes) image in

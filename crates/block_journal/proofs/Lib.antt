@@ -7,3 +7,4 @@ pub mod Steps
 pub mod Rising
 pub mod Place
 pub mod Standing
+pub mod Reading

@@ -92,7 +92,7 @@ get_block from count n zero (c ∷ cs) blocks d rising place differs =
     other_is (c ∷ cs) blocks n lacks
 get_block from count n (suc k) (c ∷ cs) blocks d rising place differs = ⊎_elim
     (λ less. get_block (c.number + 1) count n k cs (set blocks c.number c.content) d (parts from count c cs rising).rest (omega (arith, place, place_low n c cs less)) (λ lt. differs (omega (arith, lt)))
-      ∙ get_or-set_other blocks c.number n c.content [] (omega (arith, less)))
+    ∙ get_or-set_other blocks c.number n c.content [] (omega (arith, less)))
     (λ le. absurd (omega (arith, place, place_high n c cs le)))
     (cases_lt c.number n)
 

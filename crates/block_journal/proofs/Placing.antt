@@ -11,16 +11,24 @@ use Rattle.block_journal.specs.Placing.{AreWhole, IsOutside, SameBut, PlacedFrom
 use Rattle.block_journal.proofs.Images.{SameOutside, torn_outside}
 
 pub placed_one : (outcomes : List ℕ → List ℕ → Type 0) (first count at n : ℕ) (c : Change) (x s : List ℕ) → c.number < count → at ≡ first + 4096 * c.number → n ≡ 4096 → TornFrom outcomes at n x s → PlacedFrom outcomes first count (c ∷ []) x s
-placed_one outcomes first count at n c x s below at_is n_is from = (from.0, from.1, λ long.
-  let same = torn_outside at n from.0 x (omega (arith, at_is, long, below)) from.2 in
-  (record { byte = λ i out. same.byte i (⊎_elim (λ lt. inl (omega (arith, at_is, lt))) (λ le. inr (omega (arith, at_is, n_is, le))) out.0) }, from.2.no_shorter))
+placed_one outcomes first count at n c x s below at_is n_is from = (
+  from.0,
+  from.1,
+  λ long.
+      let same = torn_outside at n from.0 x (omega (arith, at_is, long, below)) from.2 in
+      (record { byte = λ i out. same.byte i (⊎_elim (λ lt. inl (omega (arith, at_is, lt))) (λ le. inr (omega (arith, at_is, n_is, le))) out.0) }, from.2.no_shorter),
+)
 
 -- the changes one after another
 pub placed_more : (outcomes : List ℕ → List ℕ → Type 0) (first count : ℕ) (cs more : List Change) (x s : List ℕ) → ((i : ℕ) → IsOutside first cs i → IsOutside first more i) → PlacedFrom (PlacedFrom outcomes first count cs) first count more x s → PlacedFrom outcomes first count cs x s
-placed_more outcomes first count cs more x s among from = (from.1.0, from.1.1, λ long.
-  let first_step = from.1.2 long in
-  let second_step = from.2 (omega (arith, long, first_step.1)) in
-  (record { byte = λ i out. second_step.0.byte i (among i out) ∙ first_step.0.byte i out }, omega (arith, first_step.1, second_step.1)))
+placed_more outcomes first count cs more x s among from = (
+  from.1.0,
+  from.1.1,
+  λ long.
+      let first_step = from.1.2 long in
+      let second_step = from.2 (omega (arith, long, first_step.1)) in
+      (record { byte = λ i out. second_step.0.byte i (among i out) ∙ first_step.0.byte i out }, omega (arith, first_step.1, second_step.1)),
+)
 
 pub placed_none : (outcomes : List ℕ → List ℕ → Type 0) (first count : ℕ) (cs : List Change) (x s : List ℕ) → outcomes x s → PlacedFrom outcomes first count cs x s
 placed_none outcomes first count cs x s left = (x, left, λ long. (record { byte = λ i out. refl }, omega arith))
@@ -53,4 +61,4 @@ image_more first k cs d image now next lt is more = more ∙ ap (option_map (wri
 pub placed_next : {a b c : ℕ} {past mid at : ℕ → List ℕ → List ℕ → Type 0} (first count k : ℕ) (cs : List Change) (d : Change) → k < length cs → LeavesOnly a b past mid (PlacedFrom (past a) first count cs) → LeavesOnly b c mid at (PlacedFrom (mid b) first count (get_or cs k d ∷ [])) → LeavesOnly a c past at (PlacedFrom (past a) first count cs)
 placed_next {a} {b} {c} {past} {mid} {at} first count k cs d lt so_far next =
     leaves-then so_far next (λ x s left. placed_more (past a) first count cs (get_or cs k d ∷ []) x s (outside_one first cs k d lt)
-      (left.0, leaves-now so_far (placed_none (past a) first count cs) left.0 s left.1, left.2))
+    (left.0, leaves-now so_far (placed_none (past a) first count cs) left.0 s left.1, left.2))

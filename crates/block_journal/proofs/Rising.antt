@@ -27,7 +27,7 @@ joined : (from count : ℕ) (c : Change) (cs : List Change) → Parts from count
 unfolding are_changes
 joined from count c cs p =
     and_from (nat_le from c.number && nat_lt c.number count && length c.content == 4096) (are_changes (c.number + 1) count cs)
-      (and_from (nat_le from c.number && nat_lt c.number count) (length c.content == 4096) (and_from (nat_le from c.number) (nat_lt c.number count) (le-leb from c.number p.low) (lt-ltb c.number count p.high)) (eq-eqb (length c.content) 4096 p.whole)) p.rest
+    (and_from (nat_le from c.number && nat_lt c.number count) (length c.content == 4096) (and_from (nat_le from c.number) (nat_lt c.number count) (le-leb from c.number p.low) (lt-ltb c.number count p.high)) (eq-eqb (length c.content) 4096 p.whole)) p.rest
 
 pub are_whole : (from count : ℕ) (cs : List Change) → are_changes from count cs ≡ true → AreWhole count cs
 are_whole from count [] is = tt
@@ -71,10 +71,10 @@ put_in_blocks from count n b (c ∷ cs) blocks is =
     let p = parts from count c cs is in
     let rest = put_in_blocks (c.number + 1) count n b cs (set blocks c.number c.content) p.rest in
     ⊎_elim
-      (λ lt. ap (λ (t : Bool). put_all (cond t (c ∷ put_in n b cs) (cond (c.number == n) (record { number = n; content = b } ∷ cs) (record { number = n; content = b } ∷ c ∷ cs))) blocks) (lt-ltb c.number n lt) ∙ rest)
-      (λ le. ap (λ (t : Bool). put_all (cond t (c ∷ put_in n b cs) (cond (c.number == n) (record { number = n; content = b } ∷ cs) (record { number = n; content = b } ∷ c ∷ cs))) blocks) (le-ltb c.number n le)
-        ∙ ⊎_elim (λ same. at same p.rest) (λ ne. beside ne le p.rest) (cases_eq c.number n))
-      (cases_lt c.number n)
+    (λ lt. ap (λ (t : Bool). put_all (cond t (c ∷ put_in n b cs) (cond (c.number == n) (record { number = n; content = b } ∷ cs) (record { number = n; content = b } ∷ c ∷ cs))) blocks) (lt-ltb c.number n lt) ∙ rest)
+    (λ le. ap (λ (t : Bool). put_all (cond t (c ∷ put_in n b cs) (cond (c.number == n) (record { number = n; content = b } ∷ cs) (record { number = n; content = b } ∷ c ∷ cs))) blocks) (le-ltb c.number n le)
+    ∙ ⊎_elim (λ same. at same p.rest) (λ ne. beside ne le p.rest) (cases_eq c.number n))
+    (cases_lt c.number n)
   where
     at : c.number ≡ n → are_changes (c.number + 1) count cs ≡ true → put_all (cond (c.number == n) (record { number = n; content = b } ∷ cs) (record { number = n; content = b } ∷ c ∷ cs)) blocks ≡ set (put_all cs (set blocks c.number c.content)) n b
     at same rising =
@@ -82,6 +82,7 @@ put_in_blocks from count n b (c ∷ cs) blocks is =
         ap (λ (t : Bool). put_all (cond t (record { number = n; content = b } ∷ cs) (record { number = n; content = b } ∷ c ∷ cs)) blocks) (eq-eqb c.number n same)
         ∙ sym (ap (λ (l : List (List ℕ)). put_all cs l) (ap (λ (k : ℕ). set (set blocks k c.content) n b) same ∙ set-set blocks n c.content b))
         ∙ put_all-set cs (set blocks c.number c.content) n b lacks
+
     beside : (c.number ≡ n → ⊥) → n ≤ c.number → are_changes (c.number + 1) count cs ≡ true → put_all (cond (c.number == n) (record { number = n; content = b } ∷ cs) (record { number = n; content = b } ∷ c ∷ cs)) blocks ≡ set (put_all cs (set blocks c.number c.content)) n b
     beside ne le rising =
         let lacks : IsNamed n (c ∷ cs) → ⊥ = λ named. ⊎_elim (λ is. ne is) (λ there. not_named (c.number + 1) count n cs rising (omega (arith, le)) there) named in
@@ -101,17 +102,18 @@ put_in_changes from count n b [] low high whole is = joined from count (record {
 put_in_changes from count n b (c ∷ cs) low high whole is =
     let p = parts from count c cs is in
     ⊎_elim (λ lt. subst (λ (t : Bool). are_changes from count (cond t (c ∷ put_in n b cs) (cond (c.number == n) (record { number = n; content = b } ∷ cs) (record { number = n; content = b } ∷ c ∷ cs))) ≡ true) (sym (lt-ltb c.number n lt))
-        (joined from count c (put_in n b cs) (record { low = p.low; high = p.high; whole = p.whole; rest = put_in_changes (c.number + 1) count n b cs (omega (arith, lt)) high whole p.rest })))
-      (λ le. subst (λ (t : Bool). are_changes from count (cond t (c ∷ put_in n b cs) (cond (c.number == n) (record { number = n; content = b } ∷ cs) (record { number = n; content = b } ∷ c ∷ cs))) ≡ true) (sym (le-ltb c.number n le))
-        (⊎_elim (λ same. at same p.rest) (λ ne. beside ne le is) (cases_eq c.number n)))
-      (cases_lt c.number n)
+    (joined from count c (put_in n b cs) (record { low = p.low; high = p.high; whole = p.whole; rest = put_in_changes (c.number + 1) count n b cs (omega (arith, lt)) high whole p.rest })))
+    (λ le. subst (λ (t : Bool). are_changes from count (cond t (c ∷ put_in n b cs) (cond (c.number == n) (record { number = n; content = b } ∷ cs) (record { number = n; content = b } ∷ c ∷ cs))) ≡ true) (sym (le-ltb c.number n le))
+    (⊎_elim (λ same. at same p.rest) (λ ne. beside ne le is) (cases_eq c.number n)))
+    (cases_lt c.number n)
   where
     at : c.number ≡ n → are_changes (c.number + 1) count cs ≡ true → are_changes from count (cond (c.number == n) (record { number = n; content = b } ∷ cs) (record { number = n; content = b } ∷ c ∷ cs)) ≡ true
     at same rising = subst (λ (t : Bool). are_changes from count (cond t (record { number = n; content = b } ∷ cs) (record { number = n; content = b } ∷ c ∷ cs)) ≡ true) (sym (eq-eqb c.number n same))
-      (joined from count (record { number = n; content = b }) cs (record { low = low; high = high; whole = whole; rest = subst (λ (k : ℕ). are_changes (k + 1) count cs ≡ true) same rising }))
+        (joined from count (record { number = n; content = b }) cs (record { low = low; high = high; whole = whole; rest = subst (λ (k : ℕ). are_changes (k + 1) count cs ≡ true) same rising }))
+
     beside : (c.number ≡ n → ⊥) → n ≤ c.number → are_changes from count (c ∷ cs) ≡ true → are_changes from count (cond (c.number == n) (record { number = n; content = b } ∷ cs) (record { number = n; content = b } ∷ c ∷ cs)) ≡ true
     beside ne le rising =
         let p = parts from count c cs rising in
         let first : are_changes (n + 1) count (c ∷ cs) ≡ true = joined (n + 1) count c cs (record { low = omega (arith, ne, le); high = p.high; whole = p.whole; rest = p.rest }) in
         subst (λ (t : Bool). are_changes from count (cond t (record { number = n; content = b } ∷ cs) (record { number = n; content = b } ∷ c ∷ cs)) ≡ true) (sym (ne_eqb c.number n ne))
-          (joined from count (record { number = n; content = b }) (c ∷ cs) (record { low = low; high = high; whole = whole; rest = first }))
+        (joined from count (record { number = n; content = b }) (c ∷ cs) (record { low = low; high = high; whole = whole; rest = first }))

@@ -1,6 +1,6 @@
 -- What a journal tells, by what its site tells.
 use Rattle.std.proofs.Common.{◌≡◌, ◌⊎◌, inl, inr, ⊎_elim, ℕ, ◌+◌, ◌<◌, ◌≤◌, Bool, true, false, IsTrue, List, [], ◌∷◌, ◌++◌, length, get_or, set, Option, None, Some, option_map, Result, Ok, Err, OnOk, OnErr, is_err, refl, sym, ◌∙◌, ap, subst, arith, cond, nat_le}
-use Rattle.std.specs.Prelude.{All, IfSome}
+use Rattle.std.specs.Prelude.{All, IfSome, IfOk}
 use Rattle.std.proofs.lemmas.List.Elements.{All-set}
 use Rattle.std.proofs.lemmas.Bool.{cases_Bool, leb-true, le-leb, true≢false}
 use Rattle.std.proofs.lemmas.List.{append-nil}
@@ -11,12 +11,13 @@ use Rattle.hal_base.proofs.StopLemmas.{Read, leaves-read, leaves-now}
 use Rattle.block_journal.specs.declared.change.Change.{Change}
 use Rattle.block_journal.specs.Commit.{IsSettled, CommitFrom, HasChanges}
 use Rattle.block_journal.specs.Device.{IsExact, SameTold}
+use Rattle.block_journal.specs.Opening.{IsReady, ReadsBlocks}
 use Rattle.block_journal.specs.Placing.{AreWhole}
-use Rattle.block_journal.specs.Redo.{blocks_at, redone, put_all, are_changes}
+use Rattle.block_journal.specs.Redo.{blocks_at, redone, put_all, are_changes, is_open}
 use Rattle.block_journal.specs.Staged.{put_in}
 use Rattle.block_journal.specs.Stands.{Stands, told_where, say_room}
 use Rattle.block_journal.proofs.Torn.{redone_closed}
-use Rattle.block_journal.proofs.Changes.{length-put_all, put_all-none}
+use Rattle.block_journal.proofs.Changes.{length-put_all, put_all-none, blocks_at-ext}
 use Rattle.block_journal.proofs.Rising.{are_whole, are_few, put_in_blocks, put_in_changes}
 
 pub told_redone : (first count : ℕ) (kept : List (List ℕ)) (image : Option (List ℕ)) (outcomes : List ℕ → List ℕ → Type 0) → Stands first count kept image outcomes → (x s : List ℕ) → outcomes x s → IsTold (told_where image kept) (redone first count x)
@@ -103,12 +104,12 @@ none_is n is = cc
 room_within : (needed : ℕ) (r : ℕ × ℕ) (new : Option (ℕ × ℕ)) (before now : ℕ) (P : ℕ → Type 0) (Q : ℕ × ℕ → Type 0) → HasRoom (Some r) new before now Q → ((room : ℕ × ℕ) → needed ≤ room.0 → P room.1 → Q room) → nat_le needed r.0 ≡ true → HasSayRoom (say_room needed (Some r)) (say_room needed new) before now P
 room_within needed r new before now P Q room so enough = record {
   stays = λ n is.
-    let t = room.stays r refl in
-    let n_is : r.1 ≡ n = number_is r.1 n (sym (ap (λ (b : Bool). cond b (Some r.1) None) enough) ∙ is) in
-    (t.0.1, ap (say_room needed) t.1 ∙ ap (λ (b : Bool). cond b (Some t.0.1) None) (le-leb needed t.0.0 (omega (arith, leb-true needed r.0 enough, t.2))), omega (arith, n_is, t.3));
+      let t = room.stays r refl in
+      let n_is : r.1 ≡ n = number_is r.1 n (sym (ap (λ (b : Bool). cond b (Some r.1) None) enough) ∙ is) in
+      (t.0.1, ap (say_room needed) t.1 ∙ ap (λ (b : Bool). cond b (Some t.0.1) None) (le-leb needed t.0.0 (omega (arith, leb-true needed r.0 enough, t.2))), omega (arith, n_is, t.3));
   quiet = λ n is fits.
-    let n_is : r.1 ≡ n = number_is r.1 n (sym (ap (λ (b : Bool). cond b (Some r.1) None) enough) ∙ is) in
-    room.quiet r refl (so r (leb-true needed r.0 enough) (subst P (sym n_is) fits));
+      let n_is : r.1 ≡ n = number_is r.1 n (sym (ap (λ (b : Bool). cond b (Some r.1) None) enough) ∙ is) in
+      room.quiet r refl (so r (leb-true needed r.0 enough) (subst P (sym n_is) fits));
 }
 
 room_short : (needed : ℕ) (r : ℕ × ℕ) (new : Option (ℕ × ℕ)) (before now : ℕ) (P : ℕ → Type 0) → nat_le needed r.0 ≡ false → HasSayRoom (say_room needed (Some r)) (say_room needed new) before now P
@@ -132,9 +133,11 @@ pub say_stands : (first count : ℕ) (kept : List (List ℕ)) (old new : Option 
 say_stands first count kept old new text a b past at stands is only = record {
   settled = λ z told. stands.settled z (sym is ∙ told);
   blocks = λ z told. stands.blocks z (sym is ∙ told);
-  exact = record { only = λ z told x s left.
-    let from = leaves-now only (said_before (past a) text) x s left in
-    stands.exact.only z (sym is ∙ told) x from.0 from.3 };
+  exact = record {
+    only = λ z told x s left.
+        let from = leaves-now only (said_before (past a) text) x s left in
+        stands.exact.only z (sym is ∙ told) x from.0 from.3;
+  };
 }
 
 told_append : (said : Option (List ℕ)) (old part s : List ℕ) → IsTold said old → s ≡ old ++ part → IsTold (append_known said part) s
@@ -170,3 +173,27 @@ commit_stands-of (Ok x) first count cs staged kept blocks old new before outcome
 
 pub made_is : (cs staged : List Change) (kept blocks : List (List ℕ)) → cs ≡ staged → blocks ≡ put_all cs kept → blocks ≡ put_all staged kept
 made_is cs staged kept blocks is made = made ∙ ap (λ (l : List Change). put_all l kept) is
+
+-- what an opening has made ready and read
+pub load_stands : (first count : ℕ) (kept : List (List ℕ)) (old ready now last : Option (List ℕ)) (opened : Bool) (a b c : ℕ) (first_at second_at last_at : ℕ → List ℕ → List ℕ → Type 0) → 8192 ≤ first → IsReady first count old ready → IsExact ready (first_at a) → now ≡ ready → last ≡ now
+    → ((z : List ℕ) → ready ≡ Some z → 4096 < length z → opened ≡ is_open z) → opened ≡ false → ReadsBlocks first count now kept
+    → LeavesOnly a b first_at second_at (first_at a) → LeavesOnly b c second_at last_at (second_at b) → Stands first count kept last (last_at c)
+load_stands first count kept old ready now last opened a b c first_at second_at last_at behind is_ready exact now_is last_is gate shut reads first_only second_only = record {
+  settled = λ z told.
+      let long = is_ready.long z (back z told) in
+      record { long = long; closed = sym (gate z (back z told) (omega (arith, long, behind))) ∙ shut };
+  blocks = λ z told. sym (reads.are z (sym last_is ∙ told) (is_ready.long z (back z told)));
+  exact = record { only = λ z told x s left. exact.only z (back z told) x s (leaves-now first_only (λ x s left. left) x s (leaves-now second_only (λ x s left. left) x s left)) };
+}
+  where
+    back : (z : List ℕ) → last ≡ Some z → ready ≡ Some z
+    back z told = sym now_is ∙ sym last_is ∙ told
+
+pub load_blocks : (first count : ℕ) (kept : List (List ℕ)) (old ready now : Option (List ℕ)) → IsReady first count old ready → SameTold old ready → now ≡ ready → ReadsBlocks first count now kept → (y : List ℕ) → old ≡ Some y → kept ≡ blocks_at first count y
+load_blocks first count kept old ready now is_ready same now_is reads y told =
+    let t = same.told y told in
+    reads.are t.0 (now_is ∙ t.1) (is_ready.long t.0 t.1) ∙ blocks_at-ext first count t.0 y (record { byte = λ i low high. is_ready.same y t.0 told t.1 i })
+
+pub if_ok_value : {T E : Type 0} {P Q : T → Type 0} (result : Result T E) → IfOk result P → ((x : T) → P x → Q x) → IfOk result Q
+if_ok_value (Ok x) p so = so x p
+if_ok_value (Err e) p so = tt

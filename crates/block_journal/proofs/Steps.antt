@@ -61,9 +61,9 @@ module _ (first count : ℕ) (cs : List Change) (image : Option (List ℕ)) (beg
       → LeavesOnly b c mid at Q → ((x s : List ℕ) → Q x s → (z : List ℕ) × mid b z s × ((y : List ℕ) → image ≡ Some y → z ≡ f y → IsBeforeOrAfter first count cs y x))
       → LeavesOnly a c past at (CommitFrom (past a) image first count cs)
   step {a} {b} {c} {past} {mid} {at} {Q} next f so_far before exact is more so = leaves-then so_far more (λ x s q.
-    let from = so x s q in
-    let was = leaves-now so_far (commit_before (past a) before) from.0 s from.1 in
-    (λ y told. from.2 y told (exact.only (f y) (is y told) from.0 s from.1), was.1))
+      let from = so x s q in
+      let was = leaves-now so_far (commit_before (past a) before) from.0 s from.1 in
+      (λ y told. from.2 y told (exact.only (f y) (is y told) from.0 s from.1), was.1))
 
   staged : List ℕ → List ℕ
   staged y = written (first + 4096 * count) (body_bytes cs) y
@@ -72,30 +72,47 @@ module _ (first count : ℕ) (cs : List Change) (image : Option (List ℕ)) (beg
   opened y = written 4096 (1 ∷ []) (written (first + 4096 * count) (body_bytes cs) y)
 
   pub body_step : {a b : ℕ} {past at : ℕ → List ℕ → List ℕ → Type 0} (place n : ℕ) → place ≡ first + 4096 * count → IsExact image (past a) → LeavesOnly a b past at (TornFrom (past a) place n) → LeavesOnly a b past at (CommitFrom (past a) image first count cs)
-  body_step {a} place n place_is exact more = leaves-weaken more (λ x s from. (λ y told.
-    let torn = subst (λ (p : ℕ). Torn p n from.0 x) place_is from.2 in
-    inl (body_torn first count cs y (begins y told) n x (subst (λ (z : List ℕ). Torn (first + 4096 * count) n z x) (exact.only y told from.0 s from.1) torn)), (from.0, from.1)))
+  body_step {a} place n place_is exact more = leaves-weaken more (λ x s from. (
+    λ y told.
+        let torn = subst (λ (p : ℕ). Torn p n from.0 x) place_is from.2 in
+        inl (body_torn first count cs y (begins y told) n x (subst (λ (z : List ℕ). Torn (first + 4096 * count) n z x) (exact.only y told from.0 s from.1) torn)),
+    (from.0, from.1),
+  ))
 
   pub gate_step : {a b c : ℕ} {past mid at : ℕ → List ℕ → List ℕ → Type 0} (next : Option (List ℕ))
       → LeavesOnly a b past mid (CommitFrom (past a) image first count cs) → IsExact image (past a) → IsExact next (mid b) → ((y : List ℕ) → image ≡ Some y → next ≡ Some (written (first + 4096 * count) (body_bytes cs) y))
       → LeavesOnly b c mid at (TornFrom (mid b) 4096 1) → LeavesOnly a c past at (CommitFrom (past a) image first count cs)
-  gate_step next so_far before exact is more = step next (λ y. written (first + 4096 * count) (body_bytes cs) y) so_far before exact is more (λ x s from. (from.0, from.1, λ y told same.
-    gate_torn first count cs y (begins y told) x (subst (λ (z : List ℕ). Torn 4096 1 z x) same from.2)))
+  gate_step next so_far before exact is more = step next (λ y. written (first + 4096 * count) (body_bytes cs) y) so_far before exact is more (λ x s from. (
+    from.0,
+    from.1,
+    λ y told same.
+        gate_torn first count cs y (begins y told) x (subst (λ (z : List ℕ). Torn 4096 1 z x) same from.2),
+  ))
 
   pub blocks_step : {a b c : ℕ} {past mid at : ℕ → List ℕ → List ℕ → Type 0} (next : Option (List ℕ))
       → LeavesOnly a b past mid (CommitFrom (past a) image first count cs) → IsExact image (past a) → IsExact next (mid b) → ((y : List ℕ) → image ≡ Some y → next ≡ Some (written 4096 (1 ∷ []) (written (first + 4096 * count) (body_bytes cs) y)))
       → LeavesOnly b c mid at (PlacedFrom (mid b) first count cs) → LeavesOnly a c past at (CommitFrom (past a) image first count cs)
-  blocks_step next so_far before exact is more = step next (λ y. written 4096 (1 ∷ []) (written (first + 4096 * count) (body_bytes cs) y)) so_far before exact is more (λ x s from. (from.0, from.1, λ y told same.
-    let placed = from.2 (subst (λ (z : List ℕ). first + 4096 * count ≤ length z) (sym same) (long_opened first count cs y (begins y told))) in
-    inr (blocks_torn first count cs y (begins y told) x (subst (λ (z : List ℕ). SameBut first cs x z) same placed.0))))
+  blocks_step next so_far before exact is more = step next (λ y. written 4096 (1 ∷ []) (written (first + 4096 * count) (body_bytes cs) y)) so_far before exact is more (λ x s from. (
+    from.0,
+    from.1,
+    λ y told same.
+        let placed = from.2 (subst (λ (z : List ℕ). first + 4096 * count ≤ length z) (sym same) (long_opened first count cs y (begins y told))) in
+        inr (blocks_torn first count cs y (begins y told) x (subst (λ (z : List ℕ). SameBut first cs x z) same placed.0)),
+  ))
 
   pub closing_step : {a b c : ℕ} {past mid at : ℕ → List ℕ → List ℕ → Type 0} (next : Option (List ℕ))
       → LeavesOnly a b past mid (CommitFrom (past a) image first count cs) → IsExact image (past a) → IsExact next (mid b) → ((y : List ℕ) → image ≡ Some y → next ≡ Some (put_image first cs (written 4096 (1 ∷ []) (written (first + 4096 * count) (body_bytes cs) y))))
       → LeavesOnly b c mid at (TornFrom (mid b) 4096 1) → LeavesOnly a c past at (CommitFrom (past a) image first count cs)
-  closing_step next so_far before exact is more = step next (λ y. put_image first cs (written 4096 (1 ∷ []) (written (first + 4096 * count) (body_bytes cs) y))) so_far before exact is more (λ x s from. (from.0, from.1, λ y told same.
-    inr (closing_torn first count cs y (begins y told) x (subst (λ (z : List ℕ). Torn 4096 1 z x) same from.2))))
+  closing_step next so_far before exact is more = step next (λ y. put_image first cs (written 4096 (1 ∷ []) (written (first + 4096 * count) (body_bytes cs) y))) so_far before exact is more (λ x s from. (
+    from.0,
+    from.1,
+    λ y told same.
+        inr (closing_torn first count cs y (begins y told) x (subst (λ (z : List ℕ). Torn 4096 1 z x) same from.2)),
+  ))
 
   pub commit_done : (last : Option (List ℕ)) → ((y : List ℕ) → image ≡ Some y → last ≡ Some (written 4096 (0 ∷ []) (put_image first cs (written 4096 (1 ∷ []) (written (first + 4096 * count) (body_bytes cs) y))))) → HasChanges first count cs image last
-  commit_done last is = record { has = λ y told.
-    let ends = done first count cs y (begins y told) in
-    (written 4096 (0 ∷ []) (put_image first cs (written 4096 (1 ∷ []) (written (first + 4096 * count) (body_bytes cs) y))), is y told, record { long = ends.0.long; closed = ends.0.closed }, ends.1) }
+  commit_done last is = record {
+    has = λ y told.
+        let ends = done first count cs y (begins y told) in
+        (written 4096 (0 ∷ []) (put_image first cs (written 4096 (1 ∷ []) (written (first + 4096 * count) (body_bytes cs) y))), is y told, record { long = ends.0.long; closed = ends.0.closed }, ends.1);
+  }

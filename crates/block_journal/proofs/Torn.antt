@@ -69,21 +69,27 @@ module _ (first count : ℕ) (cs : List Change) (x : List ℕ) (b : Begins first
     where
       head : List ℕ
       head = to_be_bytes w32 (length cs) ++ to_be_bytes w32 1
+
       eight : length (to_be_bytes w32 (length cs) ++ to_be_bytes w32 1) ≡ 8
       eight = refl
+
       body_length : length (body_bytes cs) ≡ 8 + length (flat_map change_bytes cs)
       body_length = length-append (to_be_bytes w32 (length cs) ++ to_be_bytes w32 1) (flat_map change_bytes cs)
+
       in_body : (i : ℕ) → i < length (body_bytes cs) → get_or y (first + 4096 * count + i) 0 ≡ get_or (body_bytes cs) i 0
       in_body i lt = same (first + 4096 * count + i) (omega arith) ∙ written_inside (first + 4096 * count) (body_bytes cs) x i b.long lt
+
       in_count : (i : ℕ) → i < 4 → get_or y (first + 4096 * count + i) 0 ≡ get_or (to_be_bytes w32 (length cs)) i 0
       in_count i lt =
           in_body i (omega (arith, body_length, lt))
           ∙ get_or_append_left (to_be_bytes w32 (length cs) ++ to_be_bytes w32 1) (flat_map change_bytes cs) 0 i (omega (arith, lt))
           ∙ get_or_append_left (to_be_bytes w32 (length cs)) (to_be_bytes w32 1) 0 i (omega (arith, lt))
+
       count_is : number_at (first + 4096 * count) y ≡ length cs
       count_is =
           ap (from_be_bytes w32) (bytes_at-is (first + 4096 * count) 4 (to_be_bytes w32 (length cs)) y refl (record { byte = in_count }))
           ∙ from_be_bytes-to_be_bytes_4 (length cs) (omega (arith, b.few, b.small))
+
       in_flat : (i : ℕ) → i < length (flat_map change_bytes cs) → get_or y (first + 4096 * count + 8 + i) 0 ≡ get_or (flat_map change_bytes cs) i 0
       in_flat i lt =
           ap (λ (k : ℕ). get_or y k 0) (omega arith)
@@ -106,8 +112,10 @@ module _ (first count : ℕ) (cs : List Change) (x : List ℕ) (b : Begins first
     where
       same : SameOutside 4096 1 y (written (first + 4096 * count) (body_bytes cs) x)
       same = torn_outside 4096 1 (written (first + 4096 * count) (body_bytes cs) x) y staged_long torn
+
       journal : journal_of first count y ≡ cs
       journal = journal_is y (λ i le. same.byte i (inr (omega (arith, le, b.behind))))
+
       blocks_same : blocks_at first count y ≡ blocks_at first count x
       blocks_same = blocks_at-ext first count y x (record { byte = λ i low high. same.byte i (inr (omega (arith, low, b.behind))) ∙ in_blocks i low high })
 
@@ -150,12 +158,16 @@ module _ (first count : ℕ) (cs : List Change) (x : List ℕ) (b : Begins first
     where
       z : List ℕ
       z = put_image first cs (written 4096 (1 ∷ []) (written (first + 4096 * count) (body_bytes cs) x))
+
       same : SameOutside 4096 1 y (put_image first cs (written 4096 (1 ∷ []) (written (first + 4096 * count) (body_bytes cs) x)))
       same = torn_outside 4096 1 (put_image first cs (written 4096 (1 ∷ []) (written (first + 4096 * count) (body_bytes cs) x))) y (omega (arith, long_placed, b.behind)) torn
+
       outside : SameBut first cs (put_image first cs (written 4096 (1 ∷ []) (written (first + 4096 * count) (body_bytes cs) x))) (written 4096 (1 ∷ []) (written (first + 4096 * count) (body_bytes cs) x))
       outside = put_image-outside first count cs (written 4096 (1 ∷ []) (written (first + 4096 * count) (body_bytes cs) x)) b.whole long_opened
+
       journal : journal_of first count y ≡ cs
       journal = journal_is y (λ i le. same.byte i (inr (omega (arith, le, b.behind))) ∙ outside.byte i (outside_above first count cs i b.whole le) ∙ opened_outside.byte i (inr (omega (arith, le, b.behind))))
+
       blocks_same : blocks_at first count y ≡ put_all cs (blocks_at first count x)
       blocks_same = blocks_at-ext first count y (put_image first cs (written 4096 (1 ∷ []) (written (first + 4096 * count) (body_bytes cs) x))) (record { byte = λ i low high. same.byte i (inr (omega (arith, low, b.behind))) }) ∙ placed_blocks
 
@@ -165,8 +177,7 @@ module _ (first count : ℕ) (cs : List Change) (x : List ℕ) (b : Begins first
       let z : List ℕ = put_image first cs (written 4096 (1 ∷ []) (written (first + 4096 * count) (body_bytes cs) x)) in
       let within : 4096 ≤ length z = omega (arith, long_placed, b.behind) in
       let gate : get_or (written 4096 (0 ∷ []) z) 4096 0 ≡ 0 = written_inside 4096 (0 ∷ []) z 0 within (omega arith) in
-      let outside = written_outside 4096 (0 ∷ []) z within in
-      (
+      let outside = written_outside 4096 (0 ∷ []) z within in (
         record { behind = b.behind; whole = tt; few = omega arith; small = b.small; long = omega (arith, long_placed, b.behind, length-written 4096 (0 ∷ []) z (omega (arith, long_placed, b.behind))); closed = ap (λ (b : ℕ). b == 1) gate },
         blocks_at-ext first count (written 4096 (0 ∷ []) z) z (record { byte = λ i low high. outside.byte i (inr (omega (arith, low, b.behind))) }) ∙ placed_blocks,
       )

@@ -6,7 +6,6 @@ ghost use Rattle.hal_base.specs.Fault.{HasCause};
 ghost use Rattle.hal_base.specs.Room.{HasRoom};
 ghost use Rattle.hal_base.specs.Stops.{LeavesOnly, TornFrom};
 ghost use Rattle.block_journal.specs.Device.{SameTold, IsExact};
-
 ghost use Rattle.block_journal.specs.Placing.{AreWhole, PlacedFrom};
 ghost use Rattle.block_journal.specs.Redo.{journal_start, put_image};
 
@@ -38,12 +37,7 @@ pub(crate) fn place_of(first: u64, number: u32) -> u64
 }
 
 /// Writes a block to its place.
-fn write_block<T: Site>(
-    site: &mut T,
-    first: u64,
-    count: u32,
-    change: &Change,
-) -> Result<(), Failed>
+fn write_block<T: Site>(site: &mut T, first: u64, count: u32, change: &Change) -> Result<(), Failed>
     requires near { first ≤ 2 ^ 30 }
     requires whole { AreWhole count (change.now ∷ []) }
     ensures image { OnOk result (T.image site.new ≡ option_map (written (first + 4096 * change.now.number) change.now.content) (T.image site.old)) }

@@ -1,15 +1,18 @@
 // The journal: the blocks of the last commit, and the changes that are staged.
-ghost use Rattle.std.specs.Prelude.{◌≡◌, ◌≤◌, ◌^◌, ◌<◌, All, length, IsTrue};
+ghost use Rattle.std.specs.Prelude.{◌≡◌, ◌≤◌, ◌^◌, ◌<◌, ◌%◌, All, length, IsTrue, IfOk, IfErr, MatchResult};
 ghost use Rattle.std.specs.Io.KnownBytes.{Appends};
 ghost use Rattle.hal_base.proofs.StopLemmas.{Read};
+ghost use Rattle.hal_base.specs.Fault.{Rose};
 ghost use Rattle.block_journal.specs.Commit.{last_byte};
 ghost use Rattle.block_journal.specs.Redo.{are_changes, put_all, redone};
 ghost use Rattle.block_journal.specs.Stands.{Stands, told_where, say_room};
 
 use crate::Change;
+use crate::open::{OpenFault, OpenWhy, load};
 use crate::protocol::commit_changes;
 use crate::staged::{copy_block, make_body, make_changes, put_change};
 use hal_base::{BLOCK, Blocks, Failed, JournalFault, Live, Site, StageFault, Store};
+use std::alloc::Global;
 
 /// Blocks that stand in an image from `first` on, with their journal behind them. All of them are held in
 /// memory, and beside them what is staged.
@@ -31,8 +34,43 @@ pub struct Journal<T: Site> {
 }
 
 impl<T: Site> Journal<T> {
+    ghost use Rattle.block_journal.specs.Opened.{IsOpened};
+
+    /// Opens the blocks of a site: `count` of them, the first at the byte `first`. It begins with a sync, and an
+    /// image that ends before its last block is filled up with zeros.
+    pub fn open(
+        alloc: Global,
+        mut site: T,
+        first: u64,
+        count: u32,
+    ) -> Result<Journal<T>, OpenFault<T>>
+        requires multiple { first % 4096 ≡ 0 }
+        requires behind { 8192 ≤ first }
+        requires near { first ≤ 2 ^ 30 }
+        ensures opened { IfOk result (λ journal. IsOpened first count (T.image site) (T.image journal.site) journal.kept.items journal.staged.items journal.count journal.live) }
+        ensures said { MatchResult result (λ journal. T.said journal.site ≡ T.said site) (λ fault. T.said fault.site ≡ T.said site) }
+        ensures say_faults { MatchResult result (λ journal. T.say_faults journal.site ≡ T.say_faults site) (λ fault. T.say_faults fault.site ≡ T.say_faults site) }
+        ensures later { MatchResult result (λ journal. T.disk_faults site ≤ T.disk_faults journal.site) (λ fault. T.disk_faults site ≤ T.disk_faults fault.site) }
+        ensures cause { IfErr result (λ fault. fault.why ≡ OpenWhy.DiskFault → Rose (T.disk_faults site) (T.disk_faults fault.site)) }
+    {
+        match load(alloc, &mut site, first, count) {
+            Ok(kept) => Ok(Journal {
+                site,
+                first,
+                count,
+                kept,
+                staged: Vec::new(alloc),
+                fetches: 0,
+                live: true,
+            }),
+            Err(why) => Err(OpenFault { why, site }),
+        }
+    }
+
     /// The site, with no further call.
-    pub fn close(self) -> T {
+    pub fn close(self) -> T
+        ensures { result ≡ self.site }
+    {
         let Journal {
             site,
             first: _,

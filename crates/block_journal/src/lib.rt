@@ -4,8 +4,10 @@
 mod change;
 mod device;
 mod journal;
+mod open;
 mod protocol;
 mod staged;
 
 pub use change::Change;
 pub use journal::Journal;
+pub use open::{OpenFault, OpenWhy};

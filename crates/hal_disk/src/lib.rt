@@ -8,6 +8,7 @@ mod image;
 mod input_source;
 mod mem_site;
 mod mem_source;
+mod stop;
 mod sure_site;
 
 pub use call::Call;

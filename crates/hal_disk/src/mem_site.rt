@@ -9,6 +9,7 @@ ghost use Rattle.hal_disk.specs.RecordLaw.{said_last_is};
 
 use crate::Call;
 use crate::image::{copied_from, put};
+use crate::stop::{replayed, replayed_said};
 use hal_base::{Bytes, Failed, List, Memory, Site};
 use std::alloc::Global;
 
@@ -67,6 +68,27 @@ impl MemSite {
         ensures { result ≡ length (mem_calls self.now) }
     {
         self.history.len() as u64
+    }
+
+    /// One image that a stop may leave when so many calls have returned and the next has not begun: what was
+    /// written since the last sync is there where `kept`, and else each of its bytes is `torn`.
+    pub fn stopped(&self, moment: u64, kept: bool, torn: u8) -> Result<Bytes, Memory>
+        requires { moment ≤ length (mem_calls self.now) }
+    {
+        let calls = self.calls_until(moment);
+        replayed(self.alloc, self.first.as_slice(), calls, kept, torn)
+    }
+
+    /// What was said when so many calls have returned.
+    pub fn said_at(&self, moment: u64) -> Result<Bytes, Memory>
+        requires { moment ≤ length (mem_calls self.now) }
+    {
+        replayed_said(self.alloc, self.calls_until(moment))
+    }
+
+    fn calls_until(&self, moment: u64) -> &[Call] {
+        let end = moment.min(self.history.len() as u64) as usize;
+        &self.history[..end]
     }
 }
 

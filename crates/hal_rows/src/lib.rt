@@ -1,4 +1,5 @@
-//! Tests that join crates which don't stand on each other: whole commands over sources and sites in memory.
+//! Tests that join crates which don't stand on each other: whole commands over sources and sites in memory, and the
+//! journal over sites in memory.
 #![tactic(auto)]
 
 ghost use Rattle.std.specs.Prelude.{◌≡◌, ◌≤◌, ◌⊎◌, ◌≢◌, IfOk, IsTrue, map};
@@ -69,3 +70,6 @@ pub fn ran(
 
 #[cfg(test)]
 mod first_path;
+
+#[cfg(test)]
+mod journal;

@@ -14,5 +14,5 @@ invariant-loop-change g l = record {
   stops : LeavesOnly (g.T.Site.moment l.fn.site) (g.T.Site.moment l.site) (g.T.Site.left_at l.fn.site) (g.T.Site.left_at l.site) (PlacedFrom (g.T.Site.left_at l.fn.site (g.T.Site.moment l.fn.site)) l.first l.count l.changes);
   faults : g.T.Site.disk_faults l.fn.site ≤ g.T.Site.disk_faults l.site;
   say_faults : g.T.Site.say_faults l.site ≡ g.T.Site.say_faults l.fn.site;
-  room : HasRoom (g.T.Site.room l.fn.site) (g.T.Site.room l.site) (g.T.Site.disk_faults l.fn.site) (g.T.Site.disk_faults l.site) (λ room. journal_start l.first l.count ≤ room.0)
+  room : HasRoom (g.T.Site.room l.fn.site) (g.T.Site.room l.site) (g.T.Site.disk_faults l.fn.site) (g.T.Site.disk_faults l.site) (λ room. journal_start l.first l.count ≤ room.0);
 }

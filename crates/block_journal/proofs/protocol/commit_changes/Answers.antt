@@ -16,8 +16,8 @@ pub returns-in_err-write_synced-clause-stops : goal.returns-in_err-write_synced-
 returns-in_err-write_synced-clause-stops g c =
     let place_is = c.place_of.ensures in
     let begins : (y : List ℕ) → g.T.Site.image c.args.site.now ≡ Some y → Begins c.args.first c.args.count c.args.changes.now y = λ y told.
-      let settled = c.requires.settled y told in
-      record { behind = c.requires.behind; whole = c.requires.whole; few = c.requires.few; small = c.ranges.count.fits; long = settled.long; closed = settled.closed } in
+    let settled = c.requires.settled y told in
+    record { behind = c.requires.behind; whole = c.requires.whole; few = c.requires.few; small = c.ranges.count.fits; long = settled.long; closed = settled.closed } in
     let exact = c.requires.exact in
     let s1 = body_step c.args.first c.args.count c.args.changes.now (g.T.Site.image c.args.site.now) begins c.place_of.result (length c.args.body.now) place_is exact c.write_synced.ensures.stops in
     s1
@@ -26,12 +26,12 @@ pub returns-in_err-write_synced-2-clause-stops : goal.returns-in_err-write_synce
 returns-in_err-write_synced-2-clause-stops g c =
     let place_is = c.place_of.ensures in
     let begins : (y : List ℕ) → g.T.Site.image c.args.site.now ≡ Some y → Begins c.args.first c.args.count c.args.changes.now y = λ y told.
-      let settled = c.requires.settled y told in
-      record { behind = c.requires.behind; whole = c.requires.whole; few = c.requires.few; small = c.ranges.count.fits; long = settled.long; closed = settled.closed } in
+    let settled = c.requires.settled y told in
+    record { behind = c.requires.behind; whole = c.requires.whole; few = c.requires.few; small = c.ranges.count.fits; long = settled.long; closed = settled.closed } in
     let exact = c.requires.exact in
     let s1 = body_step c.args.first c.args.count c.args.changes.now (g.T.Site.image c.args.site.now) begins c.place_of.result (length c.args.body.now) place_is exact c.write_synced.ensures.stops in
     let i1 : (y : List ℕ) → g.T.Site.image c.args.site.now ≡ Some y → g.T.Site.image c.write_synced.new.site ≡ Some (written (c.args.first + 4096 * c.args.count) (body_bytes c.args.changes.now) y) = λ y told.
-      body_is c.place_of.result (c.args.first + 4096 * c.args.count) c.args.body.now (body_bytes c.args.changes.now) (g.T.Site.image c.args.site.now) (g.T.Site.image c.write_synced.new.site) y place_is c.requires.body c.in_ok-write_synced.ensures.image told in
+    body_is c.place_of.result (c.args.first + 4096 * c.args.count) c.args.body.now (body_bytes c.args.changes.now) (g.T.Site.image c.args.site.now) (g.T.Site.image c.write_synced.new.site) y place_is c.requires.body c.in_ok-write_synced.ensures.image told in
     let s2 = gate_step c.args.first c.args.count c.args.changes.now (g.T.Site.image c.args.site.now) begins (g.T.Site.image c.write_synced.new.site) s1 exact c.in_ok-write_synced.ensures.exact i1 c.write_synced-2.ensures.stops in
     s2
 
@@ -39,15 +39,15 @@ pub returns-in_err-write_blocks-clause-stops : goal.returns-in_err-write_blocks-
 returns-in_err-write_blocks-clause-stops g c =
     let place_is = c.place_of.ensures in
     let begins : (y : List ℕ) → g.T.Site.image c.args.site.now ≡ Some y → Begins c.args.first c.args.count c.args.changes.now y = λ y told.
-      let settled = c.requires.settled y told in
-      record { behind = c.requires.behind; whole = c.requires.whole; few = c.requires.few; small = c.ranges.count.fits; long = settled.long; closed = settled.closed } in
+    let settled = c.requires.settled y told in
+    record { behind = c.requires.behind; whole = c.requires.whole; few = c.requires.few; small = c.ranges.count.fits; long = settled.long; closed = settled.closed } in
     let exact = c.requires.exact in
     let s1 = body_step c.args.first c.args.count c.args.changes.now (g.T.Site.image c.args.site.now) begins c.place_of.result (length c.args.body.now) place_is exact c.write_synced.ensures.stops in
     let i1 : (y : List ℕ) → g.T.Site.image c.args.site.now ≡ Some y → g.T.Site.image c.write_synced.new.site ≡ Some (written (c.args.first + 4096 * c.args.count) (body_bytes c.args.changes.now) y) = λ y told.
-      body_is c.place_of.result (c.args.first + 4096 * c.args.count) c.args.body.now (body_bytes c.args.changes.now) (g.T.Site.image c.args.site.now) (g.T.Site.image c.write_synced.new.site) y place_is c.requires.body c.in_ok-write_synced.ensures.image told in
+    body_is c.place_of.result (c.args.first + 4096 * c.args.count) c.args.body.now (body_bytes c.args.changes.now) (g.T.Site.image c.args.site.now) (g.T.Site.image c.write_synced.new.site) y place_is c.requires.body c.in_ok-write_synced.ensures.image told in
     let s2 = gate_step c.args.first c.args.count c.args.changes.now (g.T.Site.image c.args.site.now) begins (g.T.Site.image c.write_synced.new.site) s1 exact c.in_ok-write_synced.ensures.exact i1 c.write_synced-2.ensures.stops in
     let i2 : (y : List ℕ) → g.T.Site.image c.args.site.now ≡ Some y → g.T.Site.image c.write_synced-2.new.site ≡ Some (written 4096 (1 ∷ []) (written (c.args.first + 4096 * c.args.count) (body_bytes c.args.changes.now) y)) = λ y told.
-      image_is (written 4096 (1 ∷ [])) (g.T.Site.image c.write_synced.new.site) (g.T.Site.image c.write_synced-2.new.site) (written (c.args.first + 4096 * c.args.count) (body_bytes c.args.changes.now) y) c.in_ok-write_synced-2.ensures.image (i1 y told) in
+    image_is (written 4096 (1 ∷ [])) (g.T.Site.image c.write_synced.new.site) (g.T.Site.image c.write_synced-2.new.site) (written (c.args.first + 4096 * c.args.count) (body_bytes c.args.changes.now) y) c.in_ok-write_synced-2.ensures.image (i1 y told) in
     let s3 = blocks_step c.args.first c.args.count c.args.changes.now (g.T.Site.image c.args.site.now) begins (g.T.Site.image c.write_synced-2.new.site) s2 exact c.in_ok-write_synced-2.ensures.exact i2 c.write_blocks.ensures.stops in
     s3
 
@@ -55,18 +55,18 @@ pub returns-clause-stops : goal.returns-clause-stops
 returns-clause-stops g c =
     let place_is = c.place_of.ensures in
     let begins : (y : List ℕ) → g.T.Site.image c.args.site.now ≡ Some y → Begins c.args.first c.args.count c.args.changes.now y = λ y told.
-      let settled = c.requires.settled y told in
-      record { behind = c.requires.behind; whole = c.requires.whole; few = c.requires.few; small = c.ranges.count.fits; long = settled.long; closed = settled.closed } in
+    let settled = c.requires.settled y told in
+    record { behind = c.requires.behind; whole = c.requires.whole; few = c.requires.few; small = c.ranges.count.fits; long = settled.long; closed = settled.closed } in
     let exact = c.requires.exact in
     let s1 = body_step c.args.first c.args.count c.args.changes.now (g.T.Site.image c.args.site.now) begins c.place_of.result (length c.args.body.now) place_is exact c.write_synced.ensures.stops in
     let i1 : (y : List ℕ) → g.T.Site.image c.args.site.now ≡ Some y → g.T.Site.image c.write_synced.new.site ≡ Some (written (c.args.first + 4096 * c.args.count) (body_bytes c.args.changes.now) y) = λ y told.
-      body_is c.place_of.result (c.args.first + 4096 * c.args.count) c.args.body.now (body_bytes c.args.changes.now) (g.T.Site.image c.args.site.now) (g.T.Site.image c.write_synced.new.site) y place_is c.requires.body c.in_ok-write_synced.ensures.image told in
+    body_is c.place_of.result (c.args.first + 4096 * c.args.count) c.args.body.now (body_bytes c.args.changes.now) (g.T.Site.image c.args.site.now) (g.T.Site.image c.write_synced.new.site) y place_is c.requires.body c.in_ok-write_synced.ensures.image told in
     let s2 = gate_step c.args.first c.args.count c.args.changes.now (g.T.Site.image c.args.site.now) begins (g.T.Site.image c.write_synced.new.site) s1 exact c.in_ok-write_synced.ensures.exact i1 c.write_synced-2.ensures.stops in
     let i2 : (y : List ℕ) → g.T.Site.image c.args.site.now ≡ Some y → g.T.Site.image c.write_synced-2.new.site ≡ Some (written 4096 (1 ∷ []) (written (c.args.first + 4096 * c.args.count) (body_bytes c.args.changes.now) y)) = λ y told.
-      image_is (written 4096 (1 ∷ [])) (g.T.Site.image c.write_synced.new.site) (g.T.Site.image c.write_synced-2.new.site) (written (c.args.first + 4096 * c.args.count) (body_bytes c.args.changes.now) y) c.in_ok-write_synced-2.ensures.image (i1 y told) in
+    image_is (written 4096 (1 ∷ [])) (g.T.Site.image c.write_synced.new.site) (g.T.Site.image c.write_synced-2.new.site) (written (c.args.first + 4096 * c.args.count) (body_bytes c.args.changes.now) y) c.in_ok-write_synced-2.ensures.image (i1 y told) in
     let s3 = blocks_step c.args.first c.args.count c.args.changes.now (g.T.Site.image c.args.site.now) begins (g.T.Site.image c.write_synced-2.new.site) s2 exact c.in_ok-write_synced-2.ensures.exact i2 c.write_blocks.ensures.stops in
     let i3 : (y : List ℕ) → g.T.Site.image c.args.site.now ≡ Some y → g.T.Site.image c.write_blocks.new.site ≡ Some (put_image c.args.first c.args.changes.now (written 4096 (1 ∷ []) (written (c.args.first + 4096 * c.args.count) (body_bytes c.args.changes.now) y))) = λ y told.
-      image_is (put_image c.args.first c.args.changes.now) (g.T.Site.image c.write_synced-2.new.site) (g.T.Site.image c.write_blocks.new.site) (written 4096 (1 ∷ []) (written (c.args.first + 4096 * c.args.count) (body_bytes c.args.changes.now) y)) c.in_ok-write_blocks.ensures.image (i2 y told) in
+    image_is (put_image c.args.first c.args.changes.now) (g.T.Site.image c.write_synced-2.new.site) (g.T.Site.image c.write_blocks.new.site) (written 4096 (1 ∷ []) (written (c.args.first + 4096 * c.args.count) (body_bytes c.args.changes.now) y)) c.in_ok-write_blocks.ensures.image (i2 y told) in
     let s4 = closing_step c.args.first c.args.count c.args.changes.now (g.T.Site.image c.args.site.now) begins (g.T.Site.image c.write_blocks.new.site) s3 exact c.in_ok-write_blocks.ensures.exact i3 c.write_synced-3.ensures.stops in
     s4
 
@@ -104,15 +104,14 @@ pub returns-clause-done : goal.returns-clause-done
 returns-clause-done g c =
     let place_is = c.place_of.ensures in
     let begins : (y : List ℕ) → g.T.Site.image c.args.site.now ≡ Some y → Begins c.args.first c.args.count c.args.changes.now y = λ y told.
-      let settled = c.requires.settled y told in
-      record { behind = c.requires.behind; whole = c.requires.whole; few = c.requires.few; small = c.ranges.count.fits; long = settled.long; closed = settled.closed } in
+    let settled = c.requires.settled y told in
+    record { behind = c.requires.behind; whole = c.requires.whole; few = c.requires.few; small = c.ranges.count.fits; long = settled.long; closed = settled.closed } in
     let exact = c.requires.exact in
     let i1 : (y : List ℕ) → g.T.Site.image c.args.site.now ≡ Some y → g.T.Site.image c.write_synced.new.site ≡ Some (written (c.args.first + 4096 * c.args.count) (body_bytes c.args.changes.now) y) = λ y told.
-      body_is c.place_of.result (c.args.first + 4096 * c.args.count) c.args.body.now (body_bytes c.args.changes.now) (g.T.Site.image c.args.site.now) (g.T.Site.image c.write_synced.new.site) y place_is c.requires.body c.in_ok-write_synced.ensures.image told in
+    body_is c.place_of.result (c.args.first + 4096 * c.args.count) c.args.body.now (body_bytes c.args.changes.now) (g.T.Site.image c.args.site.now) (g.T.Site.image c.write_synced.new.site) y place_is c.requires.body c.in_ok-write_synced.ensures.image told in
     let i2 : (y : List ℕ) → g.T.Site.image c.args.site.now ≡ Some y → g.T.Site.image c.write_synced-2.new.site ≡ Some (written 4096 (1 ∷ []) (written (c.args.first + 4096 * c.args.count) (body_bytes c.args.changes.now) y)) = λ y told.
-      image_is (written 4096 (1 ∷ [])) (g.T.Site.image c.write_synced.new.site) (g.T.Site.image c.write_synced-2.new.site) (written (c.args.first + 4096 * c.args.count) (body_bytes c.args.changes.now) y) c.in_ok-write_synced-2.ensures.image (i1 y told) in
+    image_is (written 4096 (1 ∷ [])) (g.T.Site.image c.write_synced.new.site) (g.T.Site.image c.write_synced-2.new.site) (written (c.args.first + 4096 * c.args.count) (body_bytes c.args.changes.now) y) c.in_ok-write_synced-2.ensures.image (i1 y told) in
     let i3 : (y : List ℕ) → g.T.Site.image c.args.site.now ≡ Some y → g.T.Site.image c.write_blocks.new.site ≡ Some (put_image c.args.first c.args.changes.now (written 4096 (1 ∷ []) (written (c.args.first + 4096 * c.args.count) (body_bytes c.args.changes.now) y))) = λ y told.
-      image_is (put_image c.args.first c.args.changes.now) (g.T.Site.image c.write_synced-2.new.site) (g.T.Site.image c.write_blocks.new.site) (written 4096 (1 ∷ []) (written (c.args.first + 4096 * c.args.count) (body_bytes c.args.changes.now) y)) c.in_ok-write_blocks.ensures.image (i2 y told) in
+    image_is (put_image c.args.first c.args.changes.now) (g.T.Site.image c.write_synced-2.new.site) (g.T.Site.image c.write_blocks.new.site) (written 4096 (1 ∷ []) (written (c.args.first + 4096 * c.args.count) (body_bytes c.args.changes.now) y)) c.in_ok-write_blocks.ensures.image (i2 y told) in
     if_ok c.write_synced-3.result c.write_synced-3.ensures.image (λ last. commit_done c.args.first c.args.count c.args.changes.now (g.T.Site.image c.args.site.now) begins (g.T.Site.image c.write_synced-3.new.site) (λ y told.
-      image_is (written 4096 (0 ∷ [])) (g.T.Site.image c.write_blocks.new.site) (g.T.Site.image c.write_synced-3.new.site) (put_image c.args.first c.args.changes.now (written 4096 (1 ∷ []) (written (c.args.first + 4096 * c.args.count) (body_bytes c.args.changes.now) y))) last (i3 y told)))
-
+    image_is (written 4096 (0 ∷ [])) (g.T.Site.image c.write_blocks.new.site) (g.T.Site.image c.write_synced-3.new.site) (put_image c.args.first c.args.changes.now (written 4096 (1 ∷ []) (written (c.args.first + 4096 * c.args.count) (body_bytes c.args.changes.now) y))) last (i3 y told)))

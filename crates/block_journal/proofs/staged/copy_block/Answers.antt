@@ -20,6 +20,6 @@ pub returns-else-at-changes : goal.returns-else-at-changes
 returns-else-at-changes c =
     let blocks : List (List ℕ) = c.args.blocks.now in
     let differs : c.place-at.result < length c.args.changes.now → (get_or c.args.changes.now c.place-at.result none).number ≡ c.args.number → ⊥ =
-      elim c.else-at-changes.branch [ else-at-changes-via-then-at-changes+else-changes-at w ↦ (λ lt is. w.if-changes-at.false is) | else-at-changes-via-else-at-changes w ↦ (λ lt is. absurd (omega (arith, lt, w.if-at-changes.false))) ] in
+    elim c.else-at-changes.branch [ else-at-changes-via-then-at-changes+else-changes-at w ↦ (λ lt is. w.if-changes-at.false is) | else-at-changes-via-else-at-changes w ↦ (λ lt is. absurd (omega (arith, lt, w.if-at-changes.false))) ] in
     slice_get-get_or (put_all c.args.changes.now blocks) c.args.number [] (omega (arith, length-put_all c.args.changes.now blocks, c.requires.below))
     ∙ ap Some (get_block 0 (length blocks) c.args.number c.place-at.result c.args.changes.now blocks none c.requires.rise c.place-at.ensures.place differs)

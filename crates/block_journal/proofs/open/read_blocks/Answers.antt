@@ -1,0 +1,37 @@
+use Rattle.std.proofs.Common.{◌≡◌, ◌∙◌, ◌+◌, ◌*◌, ◌++◌, ◌∷◌, [], ℕ, List, Some, length, sym, ap, subst, refl, arith, rules, length-append}
+use Rattle.std.specs.Prelude.{All}
+use Rattle.hal_base.proofs.StopLemmas.{not_yet, leaves-stay}
+use Rattle.block_journal.specs.Opening.{ReadsBlock}
+use Rattle.block_journal.specs.Redo.{blocks_at}
+use Rattle.block_journal.proofs.Reading.{blocks_begin, blocks_more, whole_more, pushed_is, ok_of}
+use Rattle.block_journal.proofs.open.read_blocks.Goals as goal
+
+pub loop-number-init : goal.loop-number-init
+loop-number-init g c = record {
+  blocks = λ y told long. c.new-blocks.ensures.items ∙ blocks_begin c.args.first y;
+  many = ap length c.new-blocks.ensures.items;
+  whole = λ k d lt. absurd (omega (arith, lt, ap length c.new-blocks.ensures.items));
+  image = refl;
+  stops = not_yet (g.T.Site.moment c.args.site.now) (g.T.Site.left_at c.args.site.now) _;
+  faults = omega arith;
+  said = refl;
+  say_faults = refl;
+}
+
+pub loop-number-preserved : goal.loop-number-preserved
+loop-number-preserved g c =
+    let block = c.read_block.new.block in
+    let old = c.loop-number.blocks.items in
+    let long : length c.read_block.new.block ≡ 4096 = search (rules, c.read_block.array_long) in
+    let pushed = pushed_is c.push.new.self.items old block _ c.is_err-in-loop-number.result c.push.ensures.items c.is_err-in-loop-number.ensures.negation c.if-is_err-2.false in
+    let read = ok_of c.read_block.result c.is_err.result c.read_block.ensures.block c.is_err.ensures.negation c.if-is_err.false in
+    record {
+      blocks = λ y told far. pushed ∙ blocks_more c.args.first c.loop-number.number c.args.count (g.T.Site.image c.args.site.now) (g.T.Site.image c.loop-number.site) old block c.loop-number.invariant.image c.loop-number-test.true c.loop-number.invariant.blocks (subst (λ (at : ℕ). ReadsBlock at (g.T.Site.image c.loop-number.site) block) c.place_of.ensures read) y told far;
+      many = omega (arith, ap length pushed, length-append old (block ∷ []), c.loop-number.invariant.many);
+      whole = subst (λ (l : List (List ℕ)). All (λ block. length block ≡ 4096) l) (sym pushed) (whole_more old block c.loop-number.invariant.whole long);
+      image = c.read_block.ensures.image ∙ c.loop-number.invariant.image;
+      stops = leaves-stay c.loop-number.invariant.stops c.read_block.ensures.stops (λ x s left. left);
+      faults = omega (arith, c.loop-number.invariant.faults, c.read_block.ensures.cause.later);
+      said = c.read_block.ensures.said ∙ c.loop-number.invariant.said;
+      say_faults = c.read_block.ensures.say_faults ∙ c.loop-number.invariant.say_faults;
+    }
