@@ -6,8 +6,8 @@ use Rattle.std.proofs.lemmas.Bool.{cases_Bool, leb-true, le-leb, true≢false}
 use Rattle.std.proofs.lemmas.List.{append-nil}
 use Rattle.std.specs.Io.KnownBytes.{append_known}
 use Rattle.hal_base.specs.Room.{HasRoom, HasSayRoom}
-use Rattle.hal_base.specs.Stops.{LeavesOnly, LeavesExactly, IsTold, CommitLeaves, SayLeaves, SaidFrom}
-use Rattle.hal_base.proofs.StopLemmas.{Read, leaves-read, leaves-now}
+use Rattle.hal_base.specs.Stops.{LeavesOnly, LeavesExactly, IsTold, CommitLeaves, SayLeaves, SaidFrom, Read}
+use Rattle.hal_base.proofs.StopLemmas.{leaves-read, leaves-now}
 use Rattle.block_journal.specs.declared.change.Change.{Change}
 use Rattle.block_journal.specs.Commit.{IsSettled, CommitFrom, HasChanges}
 use Rattle.block_journal.specs.Device.{IsExact, SameTold}

@@ -1,8 +1,8 @@
 // The journal: the blocks of the last commit, and the changes that are staged.
 ghost use Rattle.std.specs.Prelude.{◌≡◌, ◌≤◌, ◌^◌, ◌<◌, ◌%◌, All, length, IsTrue, IfOk, IfErr, MatchResult};
 ghost use Rattle.std.specs.Io.KnownBytes.{Appends};
-ghost use Rattle.hal_base.proofs.StopLemmas.{Read};
 ghost use Rattle.hal_base.specs.Fault.{Rose};
+ghost use Rattle.hal_base.specs.Stops.{Read};
 ghost use Rattle.block_journal.specs.Commit.{last_byte};
 ghost use Rattle.block_journal.specs.Redo.{are_changes, put_all, redone};
 ghost use Rattle.block_journal.specs.Stands.{Stands, told_where, say_room};

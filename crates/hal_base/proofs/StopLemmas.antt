@@ -1,10 +1,7 @@
 -- How what a stop may leave goes on over several calls.
 use Rattle.std.proofs.Common.{◌≡◌, ◌⊎◌, inl, inr, ⊎_elim, ℕ, ◌<◌, ◌≤◌, List, sym, subst, arith}
 use Rattle.std.proofs.lemmas.Bool.{cases_lt}
-use Rattle.hal_base.specs.Stops.{LeavesOnly}
-
-abbrev pub History : Type 0 → Type 1
-History X = ℕ → X → List ℕ → Type 0
+use Rattle.hal_base.specs.Stops.{LeavesOnly, Read}
 
 -- before the first call
 pub not_yet : {X : Type 0} (now : ℕ) (at : ℕ → X → List ℕ → Type 0) (P : X → List ℕ → Type 0) → LeavesOnly now now at at P
@@ -32,10 +29,6 @@ leaves-then {X} {a} {b} {c} {past} {mid} {at} {P} {Q} first second so = record {
 -- a call that leaves nothing new
 pub leaves-stay : {X : Type 0} {a b c : ℕ} {past mid at : ℕ → X → List ℕ → Type 0} {P : X → List ℕ → Type 0} → LeavesOnly a b past mid P → LeavesOnly b c mid at (mid b) → ((x : X) (s : List ℕ) → past a x s → P x s) → LeavesOnly a c past at P
 leaves-stay first second before = leaves-then first second (leaves-now first before)
-
--- the history of what is read off something kept
-abbrev pub Read : {X Y : Type 0} → (X → Y) → (ℕ → X → List ℕ → Type 0) → ℕ → Y → List ℕ → Type 0
-Read {X} {Y} f at m y s = (x : X) × at m x s × (y ≡ f x)
 
 pub leaves-read : {X Y : Type 0} {a b : ℕ} {past at : ℕ → X → List ℕ → Type 0} {P : X → List ℕ → Type 0} (f : X → Y) (Q : Y → List ℕ → Type 0) → LeavesOnly a b past at P → ((x : X) (s : List ℕ) → P x s → Q (f x) s) → LeavesOnly a b (Read f past) (Read f at) Q
 leaves-read {X} {Y} {a} {b} {past} {at} {P} f Q only so = record {

@@ -36,3 +36,7 @@ CommitLeaves before after said kept text = (IsTold before kept ⊎ IsTold after 
 -- what may be left of a say: what was kept, and a front of the text as said
 abbrev pub SayLeaves : {X : Type 0} → Option X → Option (List ℕ) → List ℕ → X → List ℕ → Type 0
 SayLeaves kept said text x so_far = IsTold kept x × ((part rest : List ℕ) × (text ≡ part ++ rest) × IsTold (append_known said part) so_far)
+
+-- the history of what is read off something kept
+abbrev pub Read : {X Y : Type 0} → (X → Y) → (ℕ → X → List ℕ → Type 0) → ℕ → Y → List ℕ → Type 0
+Read {X} {Y} f at m y s = (x : X) × at m x s × (y ≡ f x)
