@@ -1,5 +1,6 @@
-use crate::{MemSource, SureSource};
-use hal_base::{Bytes, List, Source};
+use crate::{FileSite, MemSite, MemSource, SureSite, SureSource};
+use hal_base::{Bytes, List, Site, Source};
+use std::fs;
 use std::test::Fail;
 
 #[test]
@@ -24,5 +25,71 @@ fn a_sure_source_gives_all(rt: HostRuntime) -> Result<(), Fail> {
     assert_eq!(rt; source.next_piece(&mut buf), Ok(2));
     assert_eq!(rt; source.next_piece(&mut buf), Ok(1));
     assert_eq!(rt; source.next_piece(&mut buf), Ok(0));
+    Ok(())
+}
+
+#[test]
+fn a_sure_site_refuses_past_its_room(rt: HostRuntime) -> Result<(), Fail> {
+    let alloc = rt.alloc();
+    let mut site = SureSite::new(alloc, Bytes::from_slice(alloc, b"abc")?);
+    assert!(rt; site.write_at(3, b"d").is_err());
+    assert!(rt; site.say(b"x").is_err());
+    site.reserve(4, 2)?;
+    assert!(rt; site.write_at(3, b"d").is_ok());
+    assert!(rt; site.write_at(4, b"e").is_err());
+    assert!(rt; site.say(b"xy").is_ok());
+    assert!(rt; site.say(b"z").is_err());
+    assert_eq!(rt; site.image(), b"abcd".as_slice());
+    assert_eq!(rt; site.said(), b"xy".as_slice());
+    Ok(())
+}
+
+#[test]
+fn a_site_in_memory_tells_what_a_stop_leaves(rt: HostRuntime) -> Result<(), Fail> {
+    let alloc = rt.alloc();
+    let mut failing = List::new(alloc);
+    failing.push(4u64)?;
+    let mut site = MemSite::new(alloc, Bytes::from_slice(alloc, b"abc")?, failing);
+    assert!(rt; site.write_at(1, b"XY").is_ok());
+    assert!(rt; site.sync().is_ok());
+    assert!(rt; site.say(b"12").is_ok());
+    assert!(rt; site.say(b"3456").is_err());
+    assert_eq!(rt; site.image(), b"aXY".as_slice());
+    assert_eq!(rt; site.said(), b"1234".as_slice());
+    assert_eq!(rt; site.calls(), 4);
+    for (moment, kept, torn, image) in [
+        (0u64, false, 9u8, b"abc"),
+        (1, true, 9, b"aXY"),
+        (1, false, b'?', b"a??"),
+        (2, false, b'?', b"aXY"),
+    ] {
+        assert_eq!(rt;
+            site.stopped(moment, kept, torn)?.as_slice(),
+            image.as_slice()
+        );
+    }
+    assert_eq!(rt; site.said_at(3)?.as_slice(), b"12".as_slice());
+    Ok(())
+}
+
+#[test]
+fn a_file_is_read_back(rt: HostRuntime) -> Result<(), Fail> {
+    let alloc = rt.alloc();
+    let path = "haldb-test.vol";
+    let mut site = FileSite::new(
+        rt.clone()?,
+        Bytes::from_slice(alloc, path.as_bytes())?,
+        true,
+    );
+    assert!(rt; site.write_at(4096, &[7; 16]).is_ok());
+    assert!(rt; site.sync().is_ok());
+    let mut read = [1u8; 32];
+    assert_eq!(rt; site.read_at(4088, &mut read), Ok(24));
+    assert_eq!(rt; &read[..8], [0u8; 8].as_slice());
+    assert_eq!(rt; &read[8..24], [7u8; 16].as_slice());
+    fs::remove_file(&rt, path)?;
+    let absent = Bytes::from_slice(alloc, b"haldb-absent.vol")?;
+    let mut absent = FileSite::new(rt.clone()?, absent, false);
+    assert!(rt; absent.read_at(0, &mut read).is_err());
     Ok(())
 }
