@@ -21,6 +21,14 @@ abbrev pub is_name : List ℕ → Bool
 is_name [] = false
 is_name (first ∷ more) = is_name_letter first && list_all is_name_byte more && nat_le (length more) 7
 
+-- `/CK` and 0 to 5 such bytes: a portion of the concatenated key, which a FIELD names as if it were a field
+abbrev pub is_portion_name : List ℕ → Bool
+is_portion_name (a ∷ b ∷ c ∷ more) = a == 47 && b == 67 && c == 75 && list_all is_name_byte more && nat_le (length more) 5
+is_portion_name _ = false
+
+abbrev pub is_field_name : List ℕ → Bool
+is_field_name name = is_name name || is_portion_name name
+
 -- eight bytes: the name, then blanks
 abbrev pub padded : List ℕ → List ℕ
 padded name = name ++ drop (length name) (replicate 8 32)

@@ -2,14 +2,14 @@
 use Rattle.std.specs.Prelude.{ℕ, ◌≤◌, ◌≡◌, IsTrue, List, length, take}
 use Rattle.std.proofs.Common.{sym, ap, ◌∙◌, arith}
 use Rattle.std.proofs.lemmas.List.{length-take-le}
-use Rattle.hal_base.specs.Name.{is_name, padded}
+use Rattle.hal_base.specs.Name.{is_field_name, padded}
 use Rattle.hal_base.specs.declared.name.Name8.TheInside.{Inside}
 
 pub record IsStored (letters : List ℕ) (len : ℕ) : Type 0 where
   pub short : len ≤ 8
   pub whole : length letters ≡ 8
   pub blanks : letters ≡ padded (take len letters)
-  pub name : IsTrue (is_name (take len letters))
+  pub name : IsTrue (is_field_name (take len letters))
 
 pub stored_back : (a : Inside) → IsStored a.letters a.len → record { letters = padded (take a.len a.letters); len = length (take a.len a.letters) } ≡ a
 stored_back a h =

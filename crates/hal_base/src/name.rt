@@ -4,12 +4,13 @@ ghost use Rattle.std.specs.Str.{bytes_eq};
 ghost use Rattle.std.specs.Cmp.Lexicographic.{nat_list_eq_equiv};
 ghost use Rattle.std.specs.Cmp.{partial_equiv_from_equiv};
 ghost use Rattle.std.specs.List.{list_all};
-ghost use Rattle.hal_base.specs.Name.{is_name, is_name_letter, is_name_byte, padded, upper};
+ghost use Rattle.hal_base.specs.Name.{is_name, is_field_name, is_portion_name, is_name_letter, is_name_byte, padded, upper};
 
 use std::marker::Model;
 
-/// A name of 1 to 8 bytes: `A` to `Z`, `0` to `9`, `#`, `@` and `$`, the first no digit. Contracts see it as
-/// the list of these bytes.
+/// A name of 1 to 8 bytes: `A` to `Z`, `0` to `9`, `#`, `@` and `$`, the first no digit; or the name of a
+/// portion of the concatenated key, which is `/CK` and 0 to 5 such bytes. Contracts see it as the list of
+/// these bytes.
 #[derive(Clone, Copy, Debug)]
 pub struct Name8 {
     letters: [u8; 8],
@@ -48,9 +49,22 @@ impl Name8 {
         })
     }
 
+    /// The name of a portion of the concatenated key that these bytes spell, `/CK` and what follows it.
+    pub fn read_portion(text: &[u8]) -> Option<Name8>
+        ensures { SomeIff result (IsTrue (is_portion_name (map upper text.now))) (map upper text.now) }
+    {
+        if !spells_portion(text) {
+            return None;
+        }
+        Some(Name8 {
+            letters: stored(text),
+            len: text.len() as u8,
+        })
+    }
+
     pub fn as_slice(&self) -> &[u8]
         ensures same { result.now ≡ self.now }
-        ensures name { IsTrue (is_name self.now) }
+        ensures name { IsTrue (is_field_name self.now) }
         ensures short { length self.now ≤ 8 }
     {
         &self.letters[..self.len as usize]
@@ -98,6 +112,15 @@ fn spells_name(text: &[u8]) -> bool
         [first, more @ ..] => {
             is_letter(upper_case(*first)) && all_in_names(more) && more.len() <= 7
         }
+    }
+}
+
+fn spells_portion(text: &[u8]) -> bool
+    ensures { IsTrue result ↔ IsTrue (is_portion_name (map upper text.now)) }
+{
+    match text {
+        [b'/', b'C' | b'c', b'K' | b'k', more @ ..] => all_in_names(more) && more.len() <= 5,
+        _ => false,
     }
 }
 
