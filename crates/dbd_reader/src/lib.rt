@@ -1,0 +1,6 @@
+//! Database definitions as text: DBD source, read into a raw definition.
+#![tactic(auto)]
+
+mod lines;
+mod statement;
+mod word;
