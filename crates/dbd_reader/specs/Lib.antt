@@ -1,3 +1,4 @@
 pub mod Lines
+pub mod Operands
 pub mod Statements
 pub mod Words

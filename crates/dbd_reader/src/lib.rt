@@ -2,5 +2,6 @@
 #![tactic(auto)]
 
 mod lines;
+mod operand;
 mod statement;
 mod word;

@@ -13,7 +13,7 @@ mod source;
 
 pub use bytes::{Bytes, Key};
 pub use list::List;
-pub use name::Name8;
+pub use name::{Name8, upper_case};
 pub use numbers::{get16, get32, put16, put32};
 pub use outcome::{Failed, Memory};
 pub use place::{Cursor, Ilk, Shape};
