@@ -1,3 +1,4 @@
+pub mod FieldNames
 pub mod FirstLine
 pub mod NextLine
 pub mod OperandText

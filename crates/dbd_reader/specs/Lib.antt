@@ -1,4 +1,6 @@
 pub mod Lines
 pub mod Operands
+pub mod Reading
 pub mod Statements
+pub mod Values
 pub mod Words
