@@ -3,11 +3,13 @@
 
 mod fault;
 mod lines;
+mod meaning;
 mod field_value;
 mod operand;
 mod segm_value;
 mod statement;
 mod value;
+mod verdict;
 mod word;
 
 pub use fault::TextFault;
