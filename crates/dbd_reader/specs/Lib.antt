@@ -1,3 +1,4 @@
+pub mod Definition
 pub mod Lines
 pub mod Meanings
 pub mod Operands

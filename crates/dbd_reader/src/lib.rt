@@ -1,11 +1,13 @@
 //! Database definitions as text: DBD source, read into a raw definition.
 #![tactic(auto)]
 
+mod draft;
 mod fault;
 mod lines;
 mod meaning;
 mod field_value;
 mod operand;
+mod reading;
 mod segm_value;
 mod statement;
 mod value;
