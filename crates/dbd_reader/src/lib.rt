@@ -15,3 +15,7 @@ mod verdict;
 mod word;
 
 pub use fault::TextFault;
+pub use reading::read_dbd;
+
+#[cfg(test)]
+mod tests;

@@ -3,14 +3,15 @@ ghost use Rattle.std.specs.Prelude.{◌≡◌, ◌+◌, ◌-◌, ◌<◌, ◌^�
 ghost use Rattle.std.specs.Str.Lines.{lines};
 ghost use Rattle.dbd_reader.specs.Words.{word_of};
 ghost use Rattle.dbd_reader.specs.Reading.{Gives};
-ghost use Rattle.dbd_reader.specs.Definition.{worded, is_bad_at, or_bad, judged, Says};
+ghost use Rattle.dbd_reader.specs.Definition.{worded, is_bad_at, or_bad, judged, Says, meaning_of};
 
 use crate::draft::{Draft, step};
 use crate::fault::{ReadError, TextFault};
 use crate::lines::cut_line;
 use crate::operand::operands_in;
-use crate::statement::Statement;
+use crate::statement::{Statement, next_statement};
 use crate::word::{Word, operands_of, word_of};
+use hal_schema::RawDbd;
 use std::alloc::Global;
 
 #[tactic(auto, unfolding(crate::specs::Definition::worded))]
@@ -78,4 +79,29 @@ fn line_behind(text: &[u8]) -> u32
         line += 1;
     }
     line
+}
+
+/// Reads a database definition, DBD source up to and with its END line: the raw definition, whose own rules
+/// aren't looked at yet, and where the text behind that line begins.
+///
+/// A text that breaks a rule of statements and operands (13 to 19) is refused with the first line that does.
+pub fn read_dbd(alloc: Global, text: &[u8]) -> Result<(RawDbd, usize), TextFault>
+    requires { length text.now < 2 ^ 32 - 1 }
+    ensures { Says result (meaning_of text.now) }
+{
+    let mut draft = Draft::Start;
+    let mut line = 1;
+    let mut rest = text;
+    while let Some((statement, behind)) = next_statement(alloc, line, rest)? {
+        line = statement.next;
+        rest = behind;
+        match judged(alloc, draft, &statement)? {
+            Draft::Ended(dbd) => return Ok((dbd, text.len() - rest.len())),
+            next => draft = next,
+        }
+    }
+    Err(TextFault::Rule {
+        rule: 19,
+        line: line_behind(text),
+    })
 }
