@@ -41,8 +41,7 @@ fields_on items names i item field within at h so_far all =
     let r = read item field h in
     let here : is_field (get_or items i item) ≡ true = sym (ap is_field at) ∙ r.0 in
     let name : field ≡ map upper (get_or items i item) = r.1 ∙ ap (map upper) at in
-    let grown : take (i + 1) items ≡ take i items ++ get_or items i item ∷ [] = take_more items i item within in
-    (
+    let grown : take (i + 1) items ≡ take i items ++ get_or items i item ∷ [] = take_more items i item within in (
       rw (so_far, name, grown) (sym (map-append (map upper) (take i items) (get_or items i item ∷ []))),
       list_all_more is_field items i item within ∙ rw (all, here) refl,
     )

@@ -42,7 +42,7 @@ under_next text draft line rest s behind d under h place few short told open_ =
     let last = length (lines text) + 1 in
     let more : Draft → Result (RawDbd × ℕ) TextFault = λ e. definition e (statements s.next None (lines behind)) last in
     let step : definition draft (statements line None (lines rest)) last ≡ more d =
-      next_of draft s line rest behind last h ∙ ap (λ (r : Result Draft TextFault). concluded r s.next more) told ∙ not_ended d s.next more open_ in
+    next_of draft s line rest behind last h ∙ ap (λ (r : Result Draft TextFault). concluded r s.next more) told ∙ not_ended d s.next more open_ in
     record { whole = sym step ∙ under.whole; behind = place; few = omega (arith, under.few); short = omega (arith, under.short) }
 
 pub ends : (text : List ℕ) (draft : Draft) (line : ℕ) (rest : List ℕ) (s : Statement) (behind : List ℕ) (dbd : RawDbd) (place : ℕ) → IsUnder text draft line rest → statements line None (lines rest) ≡ s ∷ statements s.next None (lines behind)

@@ -145,12 +145,7 @@ fn at_index(
 }
 
 #[tactic(auto, unfolding(crate::specs::Definition::at_end))]
-fn at_end(
-    alloc: Global,
-    dbd: RawDbd,
-    word: Word,
-    operands: &[Operand],
-) -> Result<Draft, ReadError>
+fn at_end(alloc: Global, dbd: RawDbd, word: Word, operands: &[Operand]) -> Result<Draft, ReadError>
     ensures { Gives (λ x. x) result (at_end dbd word operands.now) }
 {
     match word {

@@ -3,9 +3,9 @@
 
 mod draft;
 mod fault;
+mod field_value;
 mod lines;
 mod meaning;
-mod field_value;
 mod operand;
 mod reading;
 mod segm_value;

@@ -17,7 +17,10 @@ pub fn cut_line(text: &[u8]) -> (&[u8], &[u8])
     if len == text.len() {
         return (text, text.split_at(len).1);
     }
-    (without_return(text.split_at(len).0), text.split_at(len + 1).1)
+    (
+        without_return(text.split_at(len).0),
+        text.split_at(len + 1).1,
+    )
 }
 
 fn line_len(text: &[u8]) -> usize

@@ -205,7 +205,9 @@ fn rules_of(items: &[Bytes]) -> Result<bool, ReadError>
 fn has_here(items: &[Bytes]) -> bool
     ensures { result ≡ list_any (λ part. bytes_eq part (codes "HERE")) items.now }
 {
-    items.iter().any(|item| item.as_slice() == b"HERE".as_slice())
+    items
+        .iter()
+        .any(|item| item.as_slice() == b"HERE".as_slice())
 }
 
 /// Whether a twin without a sequence field goes first; else it goes last.

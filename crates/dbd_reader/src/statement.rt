@@ -25,7 +25,11 @@ pub struct Statement {
 fn bad_at(number: u32, line: &[u8]) -> Option<u32>
     ensures { result ≡ bad_at number line.now }
 {
-    if is_readable(line) { None } else { Some(number) }
+    if is_readable(line) {
+        None
+    } else {
+        Some(number)
+    }
 }
 
 #[tactic(auto, unfolding(crate::specs::Statements::begun))]

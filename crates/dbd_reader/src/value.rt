@@ -211,7 +211,9 @@ fn is_optional_number(value: &[u8]) -> bool
 fn are_optional_numbers(values: &[Bytes]) -> bool
     ensures { result ≡ list_all is_optional_number values.now }
 {
-    values.iter().all(|value| is_optional_number(value.as_slice()))
+    values
+        .iter()
+        .all(|value| is_optional_number(value.as_slice()))
 }
 
 /// The first number, 1 where there is none.

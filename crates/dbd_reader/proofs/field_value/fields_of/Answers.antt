@@ -10,5 +10,5 @@ returns-in_default c =
 pub loop-item-preserved : goal.loop-item-preserved
 loop-item-preserved c =
     let p = fields_on c.args.items.now c.loop-item.names c.loop-item.item-index c.item-item.result c.in-Some.name c.loop-item-test.true c.item-item.is
-      (sym (c.field_in.ensures ∙ ap field_in c.as_slice.ensures) ∙ c.in-Some.is) c.loop-item.invariant.names c.loop-item.invariant.all in
-    record { names = c.in_ok-push.ensures.ok ∙ p.0; all = p.1; }
+    (sym (c.field_in.ensures ∙ ap field_in c.as_slice.ensures) ∙ c.in-Some.is) c.loop-item.invariant.names c.loop-item.invariant.all in
+    record { names = c.in_ok-push.ensures.ok ∙ p.0; all = p.1 }

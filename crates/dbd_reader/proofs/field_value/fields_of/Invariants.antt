@@ -6,5 +6,5 @@ use Rattle.dbd_reader.proofs.field_value.fields_of.Given as goal
 abbrev pub invariant-loop-item : goal.invariant-loop-item
 invariant-loop-item l = record {
   names : l.names ≡ map (map upper) (take l.item-index l.items);
-  all : list_all (λ name. is_field_name (map upper name)) (take l.item-index l.items) ≡ true
+  all : list_all (λ name. is_field_name (map upper name)) (take l.item-index l.items) ≡ true;
 }

@@ -9,7 +9,7 @@ invariant-loop-rest l = record {
   whole : statements l.line None (lines l.rest) ≡ statements l.number None (lines l.text);
   behind : (whole : List ℕ) → IsBehind whole l.number l.text → IsBehind whole l.line l.rest;
   few : l.line + length l.rest ≤ l.number + length l.text;
-  short : length l.rest ≤ length l.text
+  short : length l.rest ≤ length l.text;
 }
 
 abbrev pub decreases-loop-rest : goal.decreases-loop-rest
