@@ -1,0 +1,5 @@
+pub mod FieldNames
+pub mod FirstLine
+pub mod NextLine
+pub mod OperandText
+pub mod Whole
