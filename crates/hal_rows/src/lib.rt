@@ -70,6 +70,5 @@ pub fn ran(
 
 #[cfg(test)]
 mod first_path;
-
 #[cfg(test)]
 mod journal;
