@@ -64,7 +64,8 @@ fn a_stop_leaves_both_old_blocks_or_both_new_ones(rt: HostRuntime) -> Result<(),
 #[test]
 fn a_staged_block_is_kept_or_forgotten(rt: HostRuntime) -> Result<(), Fail> {
     let alloc = rt.alloc();
-    let site = SureSite::new(alloc, zeros(alloc)?);
+    let mut site = SureSite::new(alloc, zeros(alloc)?);
+    site.reserve((BODY + 2 * BLOCK) as u64, 0)?;
     let mut journal = Journal::open(alloc, site, FIRST, 3).ok().ok_or("opened")?;
     assert!(rt; journal.is_live());
     assert_eq!(rt; journal.count(), 3);
@@ -75,5 +76,18 @@ fn a_staged_block_is_kept_or_forgotten(rt: HostRuntime) -> Result<(), Fail> {
     let mut block = [1; BLOCK];
     journal.fetch(1, &mut block).ok().ok_or("fetched")?;
     assert_eq!(rt; block[0], 0);
+    assert!(rt; journal.is_live());
+    assert_eq!(rt; journal.count(), 3);
+    journal.stage(1, &[6; BLOCK]).ok().ok_or("staged")?;
+    assert!(rt; journal.is_live());
+    journal.commit().ok().ok_or("committed")?;
+    let site = journal.close();
+    let place = 8192 + 4096;
+    for at in place..place + BLOCK {
+        assert_eq!(rt; byte(site.image(), at), 6);
+    }
+    assert_eq!(rt; byte(site.image(), place - 1), 0);
+    assert_eq!(rt; byte(site.image(), place + BLOCK), 0);
+    assert_eq!(rt; byte(site.image(), 4096), 0);
     Ok(())
 }
