@@ -1,5 +1,5 @@
-//! Tests that join crates which don't stand on each other: whole commands over sources and sites in memory, and the
-//! journal over sites in memory.
+//! Tests that join crates which don't stand on each other: whole commands over sources and sites in memory, the
+//! journal over sites in memory, and the rules of definitions.
 #![tactic(auto)]
 
 ghost use Rattle.std.specs.Prelude.{◌≡◌, ◌≤◌, ◌⊎◌, ◌≢◌, IfOk, IsTrue, map};
@@ -69,6 +69,10 @@ pub fn ran(
 }
 
 #[cfg(test)]
+mod definitions;
+#[cfg(test)]
 mod first_path;
 #[cfg(test)]
 mod journal;
+#[cfg(test)]
+mod schema;
