@@ -1,6 +1,7 @@
 pub mod Disk
 pub mod Fault
 pub mod Name
+pub mod Pages
 pub mod Room
 pub mod Said
 pub mod Stops

@@ -27,6 +27,23 @@ pub enum StageFault {
     Memory,
 }
 
+/// Why a page wasn't read, changed or added. `NoRoom` comes where a new page is needed and no block is free.
+#[derive(Clone, Copy, Debug, PartialEq, Eq)]
+pub enum PageFault {
+    NoRoom,
+    Failed,
+    Memory,
+}
+
+/// Why what stands in the pages of a data set wasn't read: `BadTile` at the page and offset from which it
+/// isn't lawful.
+#[derive(Clone, Copy, Debug, PartialEq, Eq)]
+pub enum StoreFault {
+    BadTile { page: u16, offset: u16 },
+    Failed,
+    Memory,
+}
+
 /// Why a commit wasn't made. After `DiskFault` only a new opening answers; after `Memory` nothing was written.
 #[derive(Clone, Copy, Debug, PartialEq, Eq)]
 pub enum JournalFault {

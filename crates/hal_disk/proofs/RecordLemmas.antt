@@ -1,13 +1,17 @@
 -- A record that has one call more.
-use Rattle.std.proofs.Common.{◌≡◌, ◌⊎◌, inl, inr, ⊎_elim, ℕ, ◌+◌, ◌*◌, ◌<◌, ◌≤◌, Bool, true, false, cond, reverse, Result, Ok, Err, OnOk, OnErr, is_ok, Option, Vec, List, [], ◌∷◌, ◌++◌, length, take, drop, refl, sym, ◌∙◌, ap, subst, arith, take-append-drop}
+use Rattle.std.proofs.Common.{◌≡◌, inl, inr, ⊎_elim, ℕ, suc, ◌+◌, ◌-◌, ◌*◌, ◌^◌, ◌<◌, ◌≤◌, Bool, true, false, cond, All, IsTrue, reverse, Result, Ok, Err, IfOk, OnOk, OnErr, is_ok, Option, Vec, List, [], ◌∷◌, ◌++◌, length, take, drop, replicate, get_or, refl, sym, ◌∙◌, ap, subst, arith, take-append-drop}
+use Rattle.std.proofs.lemmas.List.{reverse-append, length-reverse, length-take-le, length-replicate}
+use Rattle.std.proofs.lemmas.List.Elements.{All-nil}
+use Rattle.std.proofs.lemmas.Bool.{le-leb}
+use Rattle.std.proofs.Math.Seq.{take-suc}
 use Rattle.hal_base.specs.Disk.{written, Torn}
 use Rattle.hal_base.proofs.ImageLemmas.{torn_whole, torn_none}
-use Rattle.hal_base.specs.Stops.{LeavesOnly, TornFrom, SaidFrom, IsTold}
+use Rattle.hal_base.specs.Stops.{LeavesOnly, TornFrom, SaidFrom}
 use Rattle.std.specs.declared.alloc.Global.{Global}
 use Rattle.hal_disk.specs.ImageNow.{image_now}
 use Rattle.hal_disk.specs.declared.call.Call.{Call}
 use Rattle.hal_disk.specs.declared.call.Call.TheVariants.{Read, Write, Sync, Say}
-use Rattle.hal_disk.specs.Record.{seen_by, said_by, MayLeave, LeavesWithin, LeftAt}
+use Rattle.hal_disk.specs.Record.{seen_by, said_by, stopped_by, MayLeave, LeavesWithin, LeftAt, is_near}
 use Rattle.hal_disk.specs.RecordLaw.{left_by}
 
 -- what may be left now is what is left at the last moment
@@ -161,3 +165,80 @@ durable_if first older newer done image is seen was = sync_durable first older n
 
 pub put_first : (f g : List ℕ) (old new : Option (Vec ℕ Global)) (at : ℕ) (content : List ℕ) (done : Bool) → f ≡ g → image_now f new ≡ cond done (written at content (image_now f old)) (image_now f old) → image_now g new ≡ cond done (written at content (image_now g old)) (image_now g old)
 put_first f g old new at content done is so = subst (λ (f : List ℕ). image_now f new ≡ cond done (written at content (image_now f old)) (image_now f old)) is so
+
+-- a record that was replayed, in the order of its calls
+pub until_next : (calls : List Call) (i : ℕ) (call : Call) → i < length calls → call ≡ get_or calls i call → reverse (take (i + 1) calls) ≡ call ∷ reverse (take i calls)
+until_next calls i call in_it is = ap (λ (n : ℕ). reverse (take n calls)) plus-one ∙ ap reverse (take-suc calls i call in_it) ∙ reverse-append (take i calls) (get_or calls i call ∷ []) ∙ ap (λ (c : Call). c ∷ reverse (take i calls)) (sym is)
+  where
+    plus-one : i + 1 ≡ suc i
+    plus-one = omega arith
+
+pub stopped_left : (first : List ℕ) (kept : Bool) (torn : ℕ) (calls : List Call) → MayLeave first calls (stopped_by first kept torn calls)
+unfolding MayLeave stopped_by
+stopped_left first kept torn [] = refl
+stopped_left first kept torn (Read ∷ older) = stopped_left first kept torn older
+stopped_left first true torn (Write at content done ∷ older) = (stopped_by first true torn older, stopped_left first true torn older, torn_whole at content (stopped_by first true torn older))
+stopped_left first false torn (Write at content done ∷ older) =
+    let same : length (replicate (length content) torn) ≡ length content = length-replicate (length content) torn in
+    (stopped_by first false torn older, stopped_left first false torn older, subst (λ (n : ℕ). Torn at n (stopped_by first false torn older) (written at (replicate (length content) torn) (stopped_by first false torn older))) same (torn_whole at (replicate (length content) torn) (stopped_by first false torn older)))
+stopped_left first kept torn (Sync true ∷ older) = refl
+stopped_left first kept torn (Sync false ∷ older) = stopped_left first kept torn older
+stopped_left first kept torn (Say text said ∷ older) = stopped_left first kept torn older
+
+-- what was left at a moment is left there still after more calls
+left_still : (first : List ℕ) (newer older : List Call) (moment : ℕ) (image text : List ℕ) → LeftAt first older moment image text → LeftAt first (newer ++ older) moment image text
+unfolding LeftAt
+left_still first [] older moment image text left = left
+left_still first (call ∷ newer) older moment image text left = inl (left_still first newer older moment image text left)
+
+pub left_until : (first : List ℕ) (calls : List Call) (count : ℕ) (image : List ℕ) → count ≤ length calls → MayLeave first (reverse (take count calls)) image → LeftAt first (reverse calls) (2 * count) image (said_by (reverse (take count calls)))
+left_until first calls count image in_it may =
+    let older = reverse (take count calls) in
+    let size : length older ≡ count = length-reverse (take count calls) ∙ length-take-le count calls in_it in
+    let now : LeftAt first older (2 * length older) image (said_by older) = left_now first older image (said_by older) may refl in
+    let all : reverse calls ≡ reverse (drop count calls) ++ older = ap reverse (sym (take-append-drop count calls)) ∙ reverse-append (take count calls) (drop count calls) in
+    subst (λ (n : ℕ). LeftAt first (reverse calls) (2 * n) image (said_by older)) size
+    (subst (λ (l : List Call). LeftAt first l (2 * length older) image (said_by older)) (sym all) (left_still first (reverse (drop count calls)) older (2 * length older) image (said_by older) now))
+
+abbrev pub AllNear : List Call → Type 0
+AllNear calls = All (λ call. IsTrue (is_near call)) calls
+
+pub none_near : (calls : List Call) → calls ≡ [] → AllNear calls
+none_near calls none = subst (λ (l : List Call). AllNear l) (sym none) (All-nil (λ call. IsTrue (is_near call)))
+
+pub next_near : (call : Call) (old slot new : List Call) → (AllNear slot → IsTrue (is_near call) → AllNear new) → slot ≡ old → AllNear old → IsTrue (is_near call) → AllNear new
+next_near call old slot new next same near is = next (subst (λ (l : List Call). AllNear l) (sym same) near) is
+
+pub read_near : IsTrue (is_near Read)
+unfolding is_near
+read_near = refl
+
+pub sync_near : (done : Bool) → IsTrue (is_near (Sync done))
+unfolding is_near
+sync_near done = refl
+
+pub say_near : (text : List ℕ) (said : ℕ) → IsTrue (is_near (Say text said))
+unfolding is_near
+say_near text said = refl
+
+pub write_near : (at : ℕ) (content kept : List ℕ) (done : Bool) → kept ≡ content → at + length content ≤ 2 ^ 63 - 1 → IsTrue (is_near (Write at kept done))
+unfolding is_near
+write_near at content kept done is fits = le-leb (at + length kept) (2 ^ 63 - 1) (omega (arith, ap length is, fits))
+
+pub nothing_seen : (first image : List ℕ) (calls : List Call) → image ≡ first → image ≡ seen_by first (reverse (take 0 calls))
+unfolding seen_by
+nothing_seen first image calls is = is
+
+pub nothing_stopped : (first image : List ℕ) (kept : Bool) (torn : ℕ) (calls : List Call) → image ≡ first → image ≡ stopped_by first kept torn (reverse (take 0 calls))
+unfolding stopped_by
+nothing_stopped first image kept torn calls is = is
+
+pub nothing_said : (said : List ℕ) (calls : List Call) → said ≡ [] → said ≡ said_by (reverse (take 0 calls))
+unfolding said_by
+nothing_said said calls is = is
+
+pub stopped_at : {E : Type 0} (result : Result (List ℕ) E) (first seen : List ℕ) (all some : List Call) (moment : ℕ) (kept : Bool) (torn : ℕ) → seen ≡ first → some ≡ take moment all → moment ≤ length (reverse all) → IfOk result (λ image. image ≡ stopped_by seen kept torn (reverse some)) → IfOk result (λ image. LeftAt first (reverse all) (2 * moment) image (said_by (reverse (take moment all))))
+stopped_at (Ok image) first seen all some moment kept torn same until fits is =
+    let it : image ≡ stopped_by first kept torn (reverse (take moment all)) = is ∙ ap (λ (f : List ℕ). stopped_by f kept torn (reverse some)) same ∙ ap (λ (l : List Call). stopped_by first kept torn (reverse l)) until in
+    left_until first all moment image (omega (arith, fits, length-reverse all)) (subst (λ (i : List ℕ). MayLeave first (reverse (take moment all)) i) (sym it) (stopped_left first kept torn (reverse (take moment all))))
+stopped_at (Err e) first seen all some moment kept torn same until fits is = is

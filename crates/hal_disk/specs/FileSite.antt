@@ -1,5 +1,5 @@
 -- A site over a file.
-use Rattle.std.specs.Prelude.{ℕ, ◌≡◌}
+use Rattle.std.specs.Prelude.{◌≡◌}
 use Rattle.hal_disk.specs.declared.file_site.FileSite.{FileSite}
 
 pub record KeepsCounts {R : Type 0} (old new : FileSite R) : Type 0 where

@@ -1,6 +1,6 @@
 -- What a record of calls says of a site: its image as it reads, its said bytes, and what a stop at each moment
 -- might have left. Lists of calls have the newest one first.
-use Rattle.std.specs.Prelude.{◌≡◌, ◌⊎◌, ℕ, ◌+◌, ◌*◌, Bool, true, false, if◌then◌else◌, List, [], ◌∷◌, ◌++◌, length, take}
+use Rattle.std.specs.Prelude.{◌≡◌, ◌⊎◌, ℕ, ◌+◌, ◌-◌, ◌*◌, ◌^◌, Bool, true, false, if◌then◌else◌, List, [], ◌∷◌, ◌++◌, length, take, replicate, nat_le}
 use Rattle.hal_base.specs.Disk.{written, Torn}
 use Rattle.hal_disk.specs.declared.call.Call.{Call}
 use Rattle.hal_disk.specs.declared.call.Call.TheVariants.{Read, Write, Sync, Say}
@@ -29,6 +29,22 @@ MayLeave first (Write at content done ∷ older) image = (old : List ℕ) × May
 MayLeave first (Sync true ∷ older) image = image ≡ seen_by first older
 MayLeave first (Sync false ∷ older) image = MayLeave first older image
 MayLeave first (Say text said ∷ older) image = MayLeave first older image
+
+-- one of them: what was written since the last sync is there where `kept`, and else each of its bytes is `torn`
+unfoldable pub stopped_by : List ℕ → Bool → ℕ → List Call → List ℕ
+stopped_by first kept torn [] = first
+stopped_by first kept torn (Read ∷ older) = stopped_by first kept torn older
+stopped_by first kept torn (Write at content done ∷ older) = written at (if kept then content else replicate (length content) torn) (stopped_by first kept torn older)
+stopped_by first kept torn (Sync true ∷ older) = seen_by first older
+stopped_by first kept torn (Sync false ∷ older) = stopped_by first kept torn older
+stopped_by first kept torn (Say text said ∷ older) = stopped_by first kept torn older
+
+-- a write ends below 2^63, as a site asks
+unfoldable pub is_near : Call → Bool
+is_near (Write at content done) = nat_le (at + length content) (2 ^ 63 - 1)
+is_near Read = true
+is_near (Sync done) = true
+is_near (Say text said) = true
 
 -- the image and the said bytes that a stop within a call may leave
 unfoldable pub LeavesWithin : List ℕ → Call → List Call → List ℕ → List ℕ → Type 0

@@ -1,5 +1,5 @@
 -- Between two calls a stop leaves just what was said.
-use Rattle.std.specs.Prelude.{◌≡◌, ◌⊎◌, ℕ, ◌+◌, ◌*◌, ◌≤◌, List, [], ◌∷◌, length}
+use Rattle.std.specs.Prelude.{◌≡◌, ℕ, ◌*◌, ◌≤◌, List, [], ◌∷◌, length}
 use Rattle.std.proofs.Common.{inl, inr, refl, sym, ◌∙◌, arith}
 use Rattle.hal_disk.specs.declared.call.Call.{Call}
 use Rattle.hal_disk.specs.Record.{said_by, LeftAt}

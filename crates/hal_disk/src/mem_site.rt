@@ -1,9 +1,9 @@
 // A site in memory that keeps its calls, and can tell what a stop at each moment might have left.
-ghost use Rattle.std.specs.Prelude.{◌≡◌, ◌≤◌, ◌<◌, ◌+◌, ◌*◌, ◌^◌, ◌++◌, None, Some, [], ◌∷◌, if◌then◌else◌, is_ok, length, reverse, take, OnOk, OnErr, vec_len};
+ghost use Rattle.std.specs.Prelude.{◌≡◌, ◌≤◌, ◌<◌, ◌+◌, ◌*◌, ◌^◌, ◌++◌, None, Some, [], ◌∷◌, if◌then◌else◌, is_ok, length, reverse, take, All, IsTrue, IfOk, OnOk, OnErr, vec_len};
 ghost use Rattle.std.specs.Vec.{vec_capacity};
 ghost use Rattle.hal_base.specs.Disk.{written};
 ghost use Rattle.hal_base.specs.Fault.{Rose, HasCause};
-ghost use Rattle.hal_disk.specs.Record.{seen_by, said_by, LeftAt};
+ghost use Rattle.hal_disk.specs.Record.{seen_by, said_by, stopped_by, is_near, LeftAt};
 ghost use Rattle.hal_disk.specs.ImageNow.{image_now};
 ghost use Rattle.hal_disk.specs.RecordLaw.{said_last_is};
 
@@ -27,10 +27,11 @@ pub struct MemSite {
     say_faults: u64,
     ghost image_is: { image_now first changed ≡ seen_by first (reverse history.items) },
     ghost said_is: { said.items ≡ said_by (reverse history.items) },
+    ghost near: { All (λ call. IsTrue (is_near call)) history.items },
 }
 
 impl MemSite {
-    ghost use Rattle.hal_disk.specs.MemSite.{mem_image, mem_said, mem_calls, IsNewSite};
+    ghost use Rattle.hal_disk.specs.MemSite.{mem_image, mem_said, mem_calls, mem_calls_until, IsNewSite};
 
     pub fn new(alloc: Global, image: Bytes, failing: List<u64>) -> MemSite
         ensures { IsNewSite image result }
@@ -74,6 +75,8 @@ impl MemSite {
     /// written since the last sync is there where `kept`, and else each of its bytes is `torn`.
     pub fn stopped(&self, moment: u64, kept: bool, torn: u8) -> Result<Bytes, Memory>
         requires { moment ≤ length (mem_calls self.now) }
+        ensures image { IfOk result (λ image. image ≡ stopped_by self.now.first kept torn (mem_calls_until self.now moment)) }
+        ensures left { IfOk result (λ image. LeftAt self.now.first (mem_calls self.now) (2 * moment) image (said_by (mem_calls_until self.now moment))) }
     {
         let calls = self.calls_until(moment);
         replayed(self.alloc, self.first.as_slice(), calls, kept, torn)
@@ -82,13 +85,16 @@ impl MemSite {
     /// What was said when so many calls have returned.
     pub fn said_at(&self, moment: u64) -> Result<Bytes, Memory>
         requires { moment ≤ length (mem_calls self.now) }
+        ensures { IfOk result (λ text. text ≡ said_by (mem_calls_until self.now moment)) }
     {
         replayed_said(self.alloc, self.calls_until(moment))
     }
 
-    fn calls_until(&self, moment: u64) -> &[Call] {
-        let end = moment.min(self.history.len() as u64) as usize;
-        &self.history[..end]
+    fn calls_until(&self, moment: u64) -> &[Call]
+        requires { moment ≤ length (mem_calls self.now) }
+        ensures { result.now ≡ take moment self.now.history.items }
+    {
+        &self.history[..moment as usize]
     }
 }
 
@@ -103,7 +109,8 @@ fn make_slot(calls: &mut Vec<Call>) -> Result<(), Memory>
 /// Adds a call, for which there is room.
 fn note(calls: &mut Vec<Call>, call: Call)
     requires { vec_len calls.old < vec_capacity calls.old }
-    ensures { reverse calls.new.items ≡ call ∷ reverse calls.old.items }
+    ensures newest { reverse calls.new.items ≡ call ∷ reverse calls.old.items }
+    ensures near { All (λ call. IsTrue (is_near call)) calls.old.items → IsTrue (is_near call) → All (λ call. IsTrue (is_near call)) calls.new.items }
 {
     let _ = calls.push(call);
 }

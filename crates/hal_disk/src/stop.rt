@@ -1,5 +1,7 @@
 // What a stop may leave, replayed from a record of calls.
-ghost use Rattle.std.specs.Prelude.{◌≡◌, length, IfOk};
+ghost use Rattle.std.specs.Prelude.{◌≡◌, ◌∷◌, ℕ, List, length, replicate, reverse, if◌then◌else◌, All, IsTrue, IfOk, OnOk};
+ghost use Rattle.hal_disk.specs.declared.call.Call.{Call};
+ghost use Rattle.hal_disk.specs.Record.{said_by, seen_by, stopped_by, is_near};
 
 use crate::Call;
 use crate::image::put;
@@ -14,41 +16,54 @@ pub(crate) fn replayed(
     calls: &[Call],
     kept: bool,
     torn: u8,
-) -> Result<Bytes, Memory> {
+) -> Result<Bytes, Memory>
+    requires { All (λ call. IsTrue (is_near call)) calls.now }
+    ensures { IfOk result (λ image. image ≡ stopped_by first.now kept torn (reverse calls.now)) }
+{
     let mut seen = first.to_vec(alloc)?;
     let mut left = first.to_vec(alloc)?;
     for call in calls {
-        match call {
-            Call::Write { at, content, done } => {
-                if *done {
-                    write(&mut seen, *at, content.as_slice())?;
-                }
-                let bytes = stopped_content(alloc, content.as_slice(), kept, torn)?;
-                write(&mut left, *at, &bytes)?;
-            }
-            Call::Sync { done } => {
-                if *done {
-                    left = seen.as_slice().to_vec(alloc)?;
-                }
-            }
-            Call::Read | Call::Say { .. } => {}
-        }
+        replay(alloc, call, &mut seen, &mut left, kept, torn)?;
     }
     Ok(Bytes::from_vec(left))
 }
 
-/// Writes what a site was asked to write, which its calls bound by 2^63 bytes.
-fn write(image: &mut Vec<u8>, at: u64, content: &[u8]) -> Result<(), Memory> {
-    let most = i64::MAX as u64;
-    if (content.len() as u64) < most && at < most - content.len() as u64 {
-        put(image, at as usize, content)?;
+#[tactic(auto, unfolding(crate::specs::Record::seen_by, crate::specs::Record::stopped_by, crate::specs::Record::is_near))]
+/// Does one call more to the image as it reads, and to the one that is left.
+fn replay(
+    alloc: Global,
+    call: &Call,
+    seen: &mut Vec<u8>,
+    left: &mut Vec<u8>,
+    kept: bool,
+    torn: u8,
+) -> Result<(), Memory>
+    requires { IsTrue (is_near call.now) }
+    ensures seen { OnOk result ((first : List ℕ) (older : List Call) → seen.old.items ≡ seen_by first older → seen.new.items ≡ seen_by first (call.now ∷ older)) }
+    ensures left { OnOk result ((first : List ℕ) (older : List Call) → seen.old.items ≡ seen_by first older → left.old.items ≡ stopped_by first kept torn older → left.new.items ≡ stopped_by first kept torn (call.now ∷ older)) }
+{
+    match call {
+        Call::Write { at, content, done } => {
+            let at = *at as usize;
+            if *done {
+                put(seen, at, content.as_slice())?;
+            }
+            let bytes = stopped_content(alloc, content.as_slice(), kept, torn)?;
+            put(left, at, &bytes)?;
+        }
+        Call::Sync { done } => {
+            if *done {
+                *left = seen.as_slice().to_vec(alloc)?;
+            }
+        }
+        Call::Read | Call::Say { .. } => {}
     }
     Ok(())
 }
 
 /// What a stop leaves of written bytes: these, or as many torn ones.
 fn stopped_content(alloc: Global, content: &[u8], kept: bool, torn: u8) -> Result<Vec<u8>, Memory>
-    ensures { IfOk result (λ bytes. length bytes.items ≡ length content.now) }
+    ensures { IfOk result (λ bytes. bytes.items ≡ (if kept then content.now else replicate (length content.now) torn)) }
 {
     if kept {
         return Ok(content.to_vec(alloc)?);
@@ -57,13 +72,24 @@ fn stopped_content(alloc: Global, content: &[u8], kept: bool, torn: u8) -> Resul
 }
 
 /// The bytes that were said by these calls.
-pub(crate) fn replayed_said(alloc: Global, calls: &[Call]) -> Result<Bytes, Memory> {
+pub(crate) fn replayed_said(alloc: Global, calls: &[Call]) -> Result<Bytes, Memory>
+    ensures { IfOk result (λ text. text ≡ said_by (reverse calls.now)) }
+{
     let mut all = Bytes::new(alloc);
     for call in calls {
-        if let Call::Say { text, said } = call {
-            let count = (*said).min(text.len());
-            all.append(&text.as_slice()[..count])?;
-        }
+        resay(&mut all, call)?;
     }
     Ok(all)
+}
+
+/// Says what one call more has said.
+#[tactic(auto, unfolding(crate::specs::Record::said_by))]
+fn resay(all: &mut Bytes, call: &Call) -> Result<(), Memory>
+    ensures { OnOk result ((older : List Call) → all.old ≡ said_by older → all.new ≡ said_by (call.now ∷ older)) }
+{
+    if let Call::Say { text, said } = call {
+        let count = (*said).min(text.len());
+        all.append(&text.as_slice()[..count])?;
+    }
+    Ok(())
 }

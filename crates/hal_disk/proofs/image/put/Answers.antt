@@ -1,4 +1,4 @@
-use Rattle.std.proofs.Common.{◌≡◌, ◌∙◌, ◌+◌, List, ℕ, length, take, drop, ◌++◌, ap}
+use Rattle.std.proofs.Common.{◌∙◌, ◌+◌, List, ℕ, length, take, drop, ◌++◌, ap}
 use Rattle.hal_base.proofs.ImageLemmas.{filled_any}
 use Rattle.hal_disk.proofs.image.put.Goals as goal
 

@@ -1,17 +1,16 @@
-use Rattle.std.proofs.Common.{◌≡◌, ◌∙◌, ◌∷◌, not, reverse, length, take, drop, List, ℕ, refl, ap, sym, take-append-drop}
-use Rattle.hal_base.specs.Said.{AppendsPart}
-use Rattle.hal_disk.specs.declared.call.Call.{Call}
-use Rattle.hal_disk.specs.declared.call.Call.TheVariants.{Read, Write, Sync, Say}
+use Rattle.std.proofs.Common.{◌≡◌, ◌∙◌, ◌∷◌, reverse, take, drop, List, ℕ, ap, sym, take-append-drop}
+use Rattle.hal_disk.specs.declared.call.Call.TheVariants.{Say}
 use Rattle.hal_disk.specs.ImageNow.{image_now}
-use Rattle.hal_disk.proofs.RecordLemmas.{newer_is, read_image, read_said, read_more, sync_image, sync_said, sync_more, durable_if, write_image, write_said, write_more, say_image, say_said, say_more, on_ok, any_err}
+use Rattle.hal_disk.proofs.RecordLemmas.{newer_is, next_near, say_near, say_image, say_said, say_more, any_err}
 use Rattle.hal_disk.proofs.mem_site.MemSiteSite.say.Goals as goal
 
 pub invariant_of-self-2 : goal.invariant_of-self-2
 invariant_of-self-2 c =
-    let is : reverse c.note.new.calls.items ≡ Say c.args.text.now c.append_front-said.result ∷ reverse c.args.self.now.history.items = newer_is (Say c.in-Ok.kept c.append_front-said.result) c.args.self.now.history.items c.make_slot.new.calls.items c.note.new.calls.items c.note.ensures c.make_slot.ensures.items ∙ ap (λ (k : List ℕ). Say k c.append_front-said.result ∷ reverse c.args.self.now.history.items) c.in-Ok.ensures in
+    let is : reverse c.note.new.calls.items ≡ Say c.args.text.now c.append_front-said.result ∷ reverse c.args.self.now.history.items = newer_is (Say c.in-Ok.kept c.append_front-said.result) c.args.self.now.history.items c.make_slot.new.calls.items c.note.new.calls.items c.note.ensures.newest c.make_slot.ensures.items ∙ ap (λ (k : List ℕ). Say k c.append_front-said.result ∷ reverse c.args.self.now.history.items) c.in-Ok.ensures in
     record {
       image_is = say_image c.args.self.now.first (reverse c.args.self.now.history.items) (reverse c.note.new.calls.items) c.args.text.now c.append_front-said.result (image_now c.args.self.now.first c.args.self.now.changed) is c.args.self.now.image_is;
       said_is = say_said (reverse c.args.self.now.history.items) (reverse c.note.new.calls.items) c.args.text.now c.append_front-said.result c.args.self.now.said.items c.append_front-said.new.said.items is c.args.self.now.said_is c.append_front-said.ensures.said;
+      near = next_near (Say c.in-Ok.kept c.append_front-said.result) c.args.self.now.history.items c.make_slot.new.calls.items c.note.new.calls.items c.note.ensures.near c.make_slot.ensures.items c.args.self.now.near (say_near c.in-Ok.kept c.append_front-said.result);
     }
 
 pub returns-clause-part : goal.returns-clause-part
@@ -24,5 +23,5 @@ returns-clause-part c = any_err c.answer.result (record {
 
 pub returns-clause-stops : goal.returns-clause-stops
 returns-clause-stops c =
-    let is : reverse c.note.new.calls.items ≡ Say c.args.text.now c.append_front-said.result ∷ reverse c.args.self.now.history.items = newer_is (Say c.in-Ok.kept c.append_front-said.result) c.args.self.now.history.items c.make_slot.new.calls.items c.note.new.calls.items c.note.ensures c.make_slot.ensures.items ∙ ap (λ (k : List ℕ). Say k c.append_front-said.result ∷ reverse c.args.self.now.history.items) c.in-Ok.ensures in
+    let is : reverse c.note.new.calls.items ≡ Say c.args.text.now c.append_front-said.result ∷ reverse c.args.self.now.history.items = newer_is (Say c.in-Ok.kept c.append_front-said.result) c.args.self.now.history.items c.make_slot.new.calls.items c.note.new.calls.items c.note.ensures.newest c.make_slot.ensures.items ∙ ap (λ (k : List ℕ). Say k c.append_front-said.result ∷ reverse c.args.self.now.history.items) c.in-Ok.ensures in
     say_more c.args.self.now.first (reverse c.args.self.now.history.items) (reverse c.note.new.calls.items) c.args.text.now c.append_front-said.result is

@@ -1,0 +1,2 @@
+pub mod ShelfLaw
+pub mod Shelved

@@ -1,0 +1,39 @@
+//! A few pages of two data sets.
+use crate::MemShelf;
+use hal_base::{BLOCK, Live, PageFault, SetId, Shelf};
+
+const FIRST: SetId = SetId {
+    part: 1,
+    number: 1,
+    letter: b'A',
+};
+
+const SECOND: SetId = SetId {
+    part: 2,
+    number: 1,
+    letter: b'X',
+};
+
+#[test]
+fn pages_stand_by_data_set_until_no_block_is_free(rt: HostRuntime) {
+    let mut shelf = MemShelf::new(rt.alloc(), 3);
+    assert_eq!(rt; shelf.grow(FIRST, 1), Ok(0));
+    assert_eq!(rt; shelf.grow(SECOND, 2), Ok(0));
+    assert_eq!(rt; shelf.grow(FIRST, 1), Ok(1));
+    assert_eq!(rt; shelf.grow(SECOND, 2), Err(PageFault::NoRoom));
+    assert_eq!(rt; shelf.pages(FIRST), 2);
+    assert_eq!(rt; shelf.pages(SECOND), 1);
+    let mut page = [0; BLOCK];
+    assert_eq!(rt; shelf.fetch_page(FIRST, 1, &mut page), Ok(()));
+    assert_eq!(rt; page[..8], [1, b'A', 0, 1, 0, 1, 0, 1].as_slice());
+    assert_eq!(rt; page[16..20], [0, 0, 15, 240].as_slice());
+    page[100] = 7;
+    assert_eq!(rt; shelf.stage_page(FIRST, 1, &page), Ok(()));
+    let mut again = [0; BLOCK];
+    assert_eq!(rt; shelf.fetch_page(FIRST, 1, &mut again), Ok(()));
+    assert_eq!(rt; again[100], 7);
+    assert_eq!(rt; shelf.fetch_page(SECOND, 0, &mut again), Ok(()));
+    assert_eq!(rt; again[..8], [2, b'X', 0, 2, 0, 1, 0, 0].as_slice());
+    assert_eq!(rt; again[100], 0);
+    assert!(rt; shelf.is_live());
+}
