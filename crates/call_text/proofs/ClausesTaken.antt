@@ -9,11 +9,11 @@ use Rattle.call_text.specs.declared.fault.Fault.{Fault}
 use Rattle.call_text.specs.declared.fault.Fault.TheVariants as faults
 use Rattle.call_text.specs.declared.line.Clause.{Clause}
 use Rattle.call_text.specs.declared.line.Ssa.{Ssa}
-use Rattle.call_text.specs.Words.{is_blank, past, in_word, is_letter, is_word}
+use Rattle.call_text.specs.Words.{is_blank, past, in_word, is_letter, is_word, printed_operator, begins_with}
 use Rattle.call_text.specs.Printing.{is_printable}
 use Rattle.call_text.specs.Printed.{is_sign}
 use Rattle.call_text.specs.Spelling.{IsRoom, SpellsWord, SpellsOperator, SpellsClause, StandsBefore, is_connector, SpellsClauses, SpellsQualification, SpellsCodes, SpellsSsa, SpellsSsas}
-use Rattle.call_text.specs.Reading.{◌>>=◌, name_at, word_at, value_at, printed_operator, begins_blank, operator_word_at, operator_at, clause_at, connector_at, clause_and_connector_at, clauses_at, codes_at, begins_with, behind, qualification_at, ssa_at, begins_word, begins_ssa, ssas_at}
+use Rattle.call_text.specs.Reading.{◌>>=◌, name_at, word_at, value_at, begins_blank, operator_word_at, operator_at, clause_at, connector_at, clause_and_connector_at, clauses_at, codes_at, behind, qualification_at, ssa_at, begins_word, begins_ssa, ssas_at}
 use Rattle.call_text.proofs.Loops.{onto}
 use Rattle.call_text.proofs.Runs.{both, Stops}
 use Rattle.call_text.proofs.ValuesPrinted.{Prints}

@@ -10,10 +10,10 @@ use Rattle.call_text.specs.declared.line.Command.{Command}
 use Rattle.call_text.specs.declared.line.Command.TheVariants.{Start, Step, Pause, Resume, Finish, Query}
 use Rattle.call_text.specs.declared.line.Line.{Line}
 use Rattle.call_text.specs.declared.line.Line.TheVariants as lines
-use Rattle.call_text.specs.Words.{is_blank, past, in_word, is_word, is_number, is_count, number_of}
+use Rattle.call_text.specs.Words.{is_blank, past, in_word, is_word, is_number, is_count, number_of, begins_with, is_reserved, is_silent}
 use Rattle.call_text.specs.Printed.{command_word}
 use Rattle.call_text.specs.Spelling.{IsGap, IsRoom, SpellsName, SpellsWord, SpellsSsas, SpellsGiven, SpellsIndex, SpellsCount, SpellsForm, SpellsWhole, Spells}
-use Rattle.call_text.specs.Reading.{begins_with, begins_word, call_at, is_reserved, session_at, index_at, open_at, count_at, command_at, reorg_at, form_at, is_silent, line_of}
+use Rattle.call_text.specs.Reading.{begins_word, call_at, session_at, index_at, open_at, count_at, command_at, reorg_at, form_at, line_of}
 use Rattle.call_text.proofs.Runs.{both, Stops, past_run, take_run, all_weaker, word_bytes, in_words}
 use Rattle.call_text.proofs.Stopping.{other_byte, stops_run, stops_room, stops_end, word_blank}
 use Rattle.call_text.proofs.Again.{name_again, word_again, past_gap}

@@ -3,10 +3,10 @@ ghost use Rattle.std.specs.Prelude.{◌≡◌, ℕ, List, IfOk, length};
 ghost use Rattle.std.specs.List.{list_all};
 ghost use Rattle.call_text.specs.Printing.{is_printable};
 ghost use Rattle.call_text.specs.Printed.{HasForm};
-ghost use Rattle.call_text.specs.Words.{past, in_word};
+ghost use Rattle.call_text.specs.Words.{past, in_word, is_reserved, is_silent};
 ghost use Rattle.call_text.specs.declared.line.Line.{Line};
 ghost use Rattle.call_text.specs.Spelling.{Spells};
-ghost use Rattle.call_text.specs.Reading.{Gives, given_at, call_at, is_reserved, session_at, index_at, open_at, plain_command, command_at, reorg_at, form_at, is_silent, cause_of, line_of};
+ghost use Rattle.call_text.specs.Reading.{Gives, given_at, call_at, session_at, index_at, open_at, plain_command, command_at, reorg_at, form_at, cause_of, line_of};
 
 use crate::fault::{Fault, ReadError};
 use crate::read_ssas::ssas_of;
