@@ -74,7 +74,7 @@ open_again rest request first session second options index whole first_is sessio
 
 -- ---- commands
 
-digit_in_word : (b : ℕ) → is_digit b ≡ true → in_word b ≡ true
+pub digit_in_word : (b : ℕ) → is_digit b ≡ true → in_word b ≡ true
 digit_in_word b h = grind (arith, h)
 
 count_again : (digits rest : List ℕ) → is_number digits ≡ true → is_count digits ≡ true → Stops in_word rest → count_at (digits ++ rest) ≡ Ok (number_of digits, rest)
@@ -127,7 +127,7 @@ neither : (a b : Bool) → (a || b) ≡ false → (a ≡ false) × (b ≡ false)
 neither true b h = absurd cc
 neither false b h = (refl, h)
 
-form_again : (gap form : List ℕ) (line : Line) → IsGap gap → SpellsForm form line → form_at (gap ++ form) ≡ Ok line
+pub form_again : (gap form : List ℕ) (line : Line) → IsGap gap → SpellsForm form line → form_at (gap ++ form) ≡ Ok line
 unfolding form_at
 form_again gap form lines.Silent gap_is h = absurd h
 form_again gap form (lines.Call call) gap_is h =

@@ -155,7 +155,7 @@ open_taken written text line name stops prints e =
 
 -- ---- commands
 
-same_bytes : (a b : List ℕ) → bytes_eq a b ≡ true → a ≡ b
+pub same_bytes : (a b : List ℕ) → bytes_eq a b ≡ true → a ≡ b
 same_bytes a b h = (bytes_eq-Decides a b).0 h
 
 -- the command of a word, and the count behind the partition
@@ -171,7 +171,7 @@ ReadCommand = Command × List ℕ
 abbrev some_command : Command → List ℕ → ReadCommand
 some_command command rest = (command, rest)
 
-number_begins : (text : List ℕ) → is_number (take_while in_word text) ≡ true → begins_word text ≡ true
+pub number_begins : (text : List ℕ) → is_number (take_while in_word text) ≡ true → begins_word text ≡ true
 number_begins text h = run_begins text (some (take_while in_word text) h)
   where
     some : (digits : List ℕ) → is_number digits ≡ true → 0 < length digits
@@ -271,7 +271,7 @@ reorg_taken written text line name stops prints e =
 neither : (a b : Bool) → a ≡ false → b ≡ false → (a || b) ≡ false
 neither a b p q = rw (p, q) refl
 
-form_taken : (text : List ℕ) (line : Line) → Prints text → form_at text ≡ Ok line → SpellsForm (past is_blank text) line
+pub form_taken : (text : List ℕ) (line : Line) → Prints text → form_at text ≡ Ok line → SpellsForm (past is_blank text) line
 unfolding form_at
 form_taken text line prints e =
     let a = bind_ok (name_at (past is_blank text)) (λ first. cond (bytes_eq first.0 (codes "PCB")) (open_at first.1) (cond (bytes_eq first.0 (codes "REORG")) (reorg_at first.1) (call_at first.0 first.1))) line e in

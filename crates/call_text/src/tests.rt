@@ -44,7 +44,10 @@ fn lines_are_read_by_their_forms(rt: HostRuntime) -> Result<(), Fail> {
         ("S GU R(A='1'*B='2'|C='3')", "S GU R(A='1'&B='2'|C='3')"),
         ("S GU R(A='1' & B='2' + C='3')", "S GU R(A='1'&B='2'|C='3')"),
         ("S GU R*d  (K='1') c*DL g", "S GU R*D(K='1') C*DL G"),
-        (" S  GN  R  ( K  =  '1'  &  L  =  '2'  )  :  '~'  ", "S GN R(K='1'&L='2') : '~'"),
+        (
+            " S  GN  R  ( K  =  '1'  &  L  =  '2'  )  :  '~'  ",
+            "S GN R(K='1'&L='2') : '~'",
+        ),
         ("S REPL R(K='1'):'a'", "S REPL R(K='1') : 'a'"),
         ("S REPL R*D:'a'", "S REPL R*D : 'a'"),
         ("s isrt r:'001aa'", "S ISRT R : '001aa'"),
