@@ -9,11 +9,11 @@ use Rattle.call_text.specs.declared.fault.Fault.{Fault}
 use Rattle.call_text.specs.declared.fault.Fault.TheVariants as faults
 use Rattle.call_text.specs.declared.line.Clause.{Clause}
 use Rattle.call_text.specs.declared.line.Ssa.{Ssa}
-use Rattle.call_text.specs.Words.{is_blank, past, in_word, is_letter, is_word}
+use Rattle.call_text.specs.Words.{is_blank, past, in_word, is_letter, is_word, printed_operator, begins_with}
 use Rattle.call_text.specs.Printing.{is_printable}
 use Rattle.call_text.specs.Printed.{is_sign}
 use Rattle.call_text.specs.Spelling.{IsRoom, SpellsWord, SpellsOperator, SpellsClause, StandsBefore, is_connector, SpellsClauses, SpellsQualification, SpellsCodes, SpellsSsa, SpellsSsas}
-use Rattle.call_text.specs.Reading.{◌>>=◌, name_at, word_at, value_at, printed_operator, begins_blank, operator_word_at, operator_at, clause_at, connector_at, clause_and_connector_at, clauses_at, codes_at, begins_with, behind, qualification_at, ssa_at, begins_word, begins_ssa, ssas_at}
+use Rattle.call_text.specs.Reading.{◌>>=◌, name_at, word_at, value_at, begins_blank, operator_word_at, operator_at, clause_at, connector_at, clause_and_connector_at, clauses_at, codes_at, behind, qualification_at, ssa_at, begins_word, begins_ssa, ssas_at}
 use Rattle.call_text.proofs.Loops.{onto}
 use Rattle.call_text.proofs.Runs.{both, Stops}
 use Rattle.call_text.proofs.ValuesPrinted.{Prints}
@@ -145,16 +145,16 @@ connector_taken (b ∷ tail) next rest e = by_case (b == 41) (b == 38 || b == 42
     by_case false false false hu hv hw h = absurd cc
 
 -- a clause with the gaps round it and the byte behind them
-record JoinedTaken (or : Bool) (text : List ℕ) (clause : Clause) (next : Option Bool) (rest : List ℕ) : Type 0 where
-  front : List ℕ
-  sign : ℕ
-  whole : text ≡ front ++ (sign ∷ rest)
-  stands : (more : List ℕ) → StandsBefore (front ++ more) or clause more
-  closes : next ≡ None → sign ≡ 41
-  joins : (o : Bool) → next ≡ Some o → is_connector o sign ≡ true
-  prints : Prints rest
+pub record JoinedTaken (or : Bool) (text : List ℕ) (clause : Clause) (next : Option Bool) (rest : List ℕ) : Type 0 where
+  pub front : List ℕ
+  pub sign : ℕ
+  pub whole : text ≡ front ++ (sign ∷ rest)
+  pub stands : (more : List ℕ) → StandsBefore (front ++ more) or clause more
+  pub closes : next ≡ None → sign ≡ 41
+  pub joins : (o : Bool) → next ≡ Some o → is_connector o sign ≡ true
+  pub prints : Prints rest
 
-joined_taken : (or : Bool) (text : List ℕ) (clause : Clause) (next : Option Bool) (rest : List ℕ) → Prints text → clause_and_connector_at or text ≡ Ok (clause, next, rest) → JoinedTaken or text clause next rest
+pub joined_taken : (or : Bool) (text : List ℕ) (clause : Clause) (next : Option Bool) (rest : List ℕ) → Prints text → clause_and_connector_at or text ≡ Ok (clause, next, rest) → JoinedTaken or text clause next rest
 unfolding clause_and_connector_at
 joined_taken or text clause next rest prints e =
     let a = bind_ok (clause_at or (past is_blank text)) (λ c. connector_at (past is_blank c.1) >>= λ n. Ok (c.0, n.0, n.1)) (clause, next, rest) e in
@@ -270,7 +270,7 @@ starred : (tail code rest : List ℕ) → WordTaken (λ w. SpellsWord w code) ta
 starred tail [] rest t = let no_word : is_word [] ≡ true = t.taken.spells.is in absurd cc
 starred tail (c ∷ code) rest t = record { written = 42 ∷ t.taken.written; whole = ap (λ (x : List ℕ). 42 ∷ x) t.taken.whole; spells = (t.taken.written, t.taken.spells, refl); prints = t.taken.prints }
 
-codes_taken : (text code rest : List ℕ) → Prints text → codes_at text ≡ Ok (code, rest) → Taken (λ w. SpellsCodes w code) text rest
+pub codes_taken : (text code rest : List ℕ) → Prints text → codes_at text ≡ Ok (code, rest) → Taken (λ w. SpellsCodes w code) text rest
 unfolding codes_at
 codes_taken [] code rest prints e =
     let made : some_word [] [] ≡ some_word code rest = ok_is (some_word [] []) (some_word code rest) e in
@@ -291,7 +291,7 @@ ReadSsa = Ssa × List ℕ
 abbrev some_ssa : Ssa → List ℕ → ReadSsa
 some_ssa ssa rest = (ssa, rest)
 
-ssa_taken : (text : List ℕ) (ssa : Ssa) (rest : List ℕ) → Prints text → ssa_at text ≡ Ok (ssa, rest) → Taken (λ w. SpellsSsa w ssa) text rest
+pub ssa_taken : (text : List ℕ) (ssa : Ssa) (rest : List ℕ) → Prints text → ssa_at text ≡ Ok (ssa, rest) → Taken (λ w. SpellsSsa w ssa) text rest
 unfolding ssa_at
 ssa_taken text ssa rest prints e =
     let a = bind_ok (name_at text) (λ seg. codes_at seg.1 >>= λ code. qualification_at code.1 >>= λ clauses. Ok (record { seg = seg.0; codes = code.0; clauses = clauses.0 }, clauses.1)) (ssa, rest) e in

@@ -6,12 +6,11 @@ use Rattle.std.proofs.lemmas.List.{append-nil}
 use Rattle.std.proofs.lemmas.Bool.Decides.{nat_tests}
 use Rattle.hal_base.specs.Name.{upper}
 use Rattle.call_text.specs.declared.line.Clause.{Clause}
-use Rattle.call_text.specs.Words.{is_letter}
+use Rattle.call_text.specs.Words.{is_letter, printed_operator}
 use Rattle.call_text.specs.Printing.{is_printable, printed_value}
 use Rattle.call_text.specs.Printed.{is_sign, operator_text, bytes_of, clause_text, connector, joined_clause}
 use Rattle.call_text.specs.Plain.{plain_clause}
 use Rattle.call_text.specs.Spelling.{SpellsOperatorWord, SpellsOperator, SpellsClause, StandsBefore, is_connector, SpellsClauses}
-use Rattle.call_text.specs.Reading.{printed_operator}
 use Rattle.call_text.proofs.Runs.{both, all_weaker, letters_bytes}
 use Rattle.call_text.proofs.Stopping.{other_byte}
 use Rattle.call_text.proofs.ValuesPrinted.{Prints, prints_both, map_same, name_spells, name_prints, value_printed}

@@ -10,10 +10,10 @@ use Rattle.call_text.specs.declared.line.Command.{Command}
 use Rattle.call_text.specs.declared.line.Command.TheVariants.{Start, Step, Pause, Resume, Finish, Query}
 use Rattle.call_text.specs.declared.line.Line.{Line}
 use Rattle.call_text.specs.declared.line.Line.TheVariants as lines
-use Rattle.call_text.specs.Words.{is_blank, past, in_word, is_word, is_number, is_count, number_of}
+use Rattle.call_text.specs.Words.{is_blank, past, in_word, is_word, is_number, is_count, number_of, begins_with, is_reserved, is_silent}
 use Rattle.call_text.specs.Printed.{command_word}
 use Rattle.call_text.specs.Spelling.{IsGap, IsRoom, SpellsName, SpellsWord, SpellsSsas, SpellsGiven, SpellsIndex, SpellsCount, SpellsForm, SpellsWhole, Spells}
-use Rattle.call_text.specs.Reading.{begins_with, begins_word, call_at, is_reserved, session_at, index_at, open_at, count_at, command_at, reorg_at, form_at, is_silent, line_of}
+use Rattle.call_text.specs.Reading.{begins_word, call_at, session_at, index_at, open_at, count_at, command_at, reorg_at, form_at, line_of}
 use Rattle.call_text.proofs.Runs.{both, Stops, past_run, take_run, all_weaker, word_bytes, in_words}
 use Rattle.call_text.proofs.Stopping.{other_byte, stops_run, stops_room, stops_end, word_blank}
 use Rattle.call_text.proofs.Again.{name_again, word_again, past_gap}
@@ -74,7 +74,7 @@ open_again rest request first session second options index whole first_is sessio
 
 -- ---- commands
 
-digit_in_word : (b : ℕ) → is_digit b ≡ true → in_word b ≡ true
+pub digit_in_word : (b : ℕ) → is_digit b ≡ true → in_word b ≡ true
 digit_in_word b h = grind (arith, h)
 
 count_again : (digits rest : List ℕ) → is_number digits ≡ true → is_count digits ≡ true → Stops in_word rest → count_at (digits ++ rest) ≡ Ok (number_of digits, rest)
@@ -127,7 +127,7 @@ neither : (a b : Bool) → (a || b) ≡ false → (a ≡ false) × (b ≡ false)
 neither true b h = absurd cc
 neither false b h = (refl, h)
 
-form_again : (gap form : List ℕ) (line : Line) → IsGap gap → SpellsForm form line → form_at (gap ++ form) ≡ Ok line
+pub form_again : (gap form : List ℕ) (line : Line) → IsGap gap → SpellsForm form line → form_at (gap ++ form) ≡ Ok line
 unfolding form_at
 form_again gap form lines.Silent gap_is h = absurd h
 form_again gap form (lines.Call call) gap_is h =

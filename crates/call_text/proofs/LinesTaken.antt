@@ -14,11 +14,11 @@ use Rattle.call_text.specs.declared.line.Command.{Command}
 use Rattle.call_text.specs.declared.line.Command.TheVariants.{Start, Step, Pause, Resume, Finish, Query}
 use Rattle.call_text.specs.declared.line.Line.{Line}
 use Rattle.call_text.specs.declared.line.Line.TheVariants as lines
-use Rattle.call_text.specs.Words.{is_blank, past, in_word, is_number, is_count, number_of}
+use Rattle.call_text.specs.Words.{is_blank, past, in_word, is_number, is_count, number_of, is_reserved, is_silent}
 use Rattle.call_text.specs.Printing.{is_printable}
 use Rattle.call_text.specs.Printed.{command_word, HasForm}
 use Rattle.call_text.specs.Spelling.{IsGap, IsRoom, SpellsName, SpellsGiven, SpellsCall, SpellsIndex, SpellsOpen, SpellsCount, SpellsReorg, SpellsForm, Spells}
-use Rattle.call_text.specs.Reading.{◌>>=◌, name_at, word_at, value_at, begins_word, is_end, ssas_at, given_at, call_at, is_reserved, session_at, index_at, open_at, count_at, plain_command, or_form, command_at, reorg_at, form_at, is_silent, line_or_cause, line_of}
+use Rattle.call_text.specs.Reading.{◌>>=◌, name_at, word_at, value_at, begins_word, is_end, ssas_at, given_at, call_at, session_at, index_at, open_at, count_at, plain_command, or_form, command_at, reorg_at, form_at, line_or_cause, line_of}
 use Rattle.call_text.proofs.Runs.{Stops}
 use Rattle.call_text.proofs.ValuesPrinted.{Prints}
 use Rattle.call_text.proofs.Taken.{bind_ok, passed, refused, ok_is, parts_of, blanks_of, past_prints, prints_parts, WordTaken, name_taken, word_taken, room_of, run_begins, value_taken}
@@ -155,7 +155,7 @@ open_taken written text line name stops prints e =
 
 -- ---- commands
 
-same_bytes : (a b : List ℕ) → bytes_eq a b ≡ true → a ≡ b
+pub same_bytes : (a b : List ℕ) → bytes_eq a b ≡ true → a ≡ b
 same_bytes a b h = (bytes_eq-Decides a b).0 h
 
 -- the command of a word, and the count behind the partition
@@ -171,7 +171,7 @@ ReadCommand = Command × List ℕ
 abbrev some_command : Command → List ℕ → ReadCommand
 some_command command rest = (command, rest)
 
-number_begins : (text : List ℕ) → is_number (take_while in_word text) ≡ true → begins_word text ≡ true
+pub number_begins : (text : List ℕ) → is_number (take_while in_word text) ≡ true → begins_word text ≡ true
 number_begins text h = run_begins text (some (take_while in_word text) h)
   where
     some : (digits : List ℕ) → is_number digits ≡ true → 0 < length digits
@@ -271,7 +271,7 @@ reorg_taken written text line name stops prints e =
 neither : (a b : Bool) → a ≡ false → b ≡ false → (a || b) ≡ false
 neither a b p q = rw (p, q) refl
 
-form_taken : (text : List ℕ) (line : Line) → Prints text → form_at text ≡ Ok line → SpellsForm (past is_blank text) line
+pub form_taken : (text : List ℕ) (line : Line) → Prints text → form_at text ≡ Ok line → SpellsForm (past is_blank text) line
 unfolding form_at
 form_taken text line prints e =
     let a = bind_ok (name_at (past is_blank text)) (λ first. cond (bytes_eq first.0 (codes "PCB")) (open_at first.1) (cond (bytes_eq first.0 (codes "REORG")) (reorg_at first.1) (call_at first.0 first.1))) line e in

@@ -7,8 +7,8 @@ use Rattle.call_text.specs.declared.fault.ReadError.{ReadError}
 use Rattle.call_text.specs.declared.fault.ReadError.TheVariants as errors
 use Rattle.call_text.specs.declared.line.Clause.{Clause}
 use Rattle.call_text.specs.declared.line.Ssa.{Ssa}
-use Rattle.call_text.specs.Words.{is_blank, past}
-use Rattle.call_text.specs.Reading.{◌>>=◌, Fails, clause_and_connector_at, clauses_at, begins_ssa, ssa_at, ssas_at, text_byte_at, text_at, is_hex, hex_value, close_at, pair_at, pairs_at}
+use Rattle.call_text.specs.Words.{is_blank, past, is_hex, hex_value}
+use Rattle.call_text.specs.Reading.{◌>>=◌, Fails, clause_and_connector_at, clauses_at, begins_ssa, ssa_at, ssas_at, text_byte_at, text_at, close_at, pair_at, pairs_at}
 
 -- what was read before, and what is still read
 abbrev pub with_front : {A : Type 0} → List A → Result (List A × List ℕ) Fault → Result (List A × List ℕ) Fault

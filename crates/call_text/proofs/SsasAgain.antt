@@ -6,9 +6,9 @@ use Rattle.hal_base.specs.Name.{is_name, is_name_byte}
 use Rattle.call_text.specs.declared.line.Value.{Value}
 use Rattle.call_text.specs.declared.line.Clause.{Clause}
 use Rattle.call_text.specs.declared.line.Ssa.{Ssa}
-use Rattle.call_text.specs.Words.{is_blank, past, in_word}
+use Rattle.call_text.specs.Words.{is_blank, past, in_word, begins_with}
 use Rattle.call_text.specs.Spelling.{IsGap, IsRoom, SpellsName, SpellsQualification, SpellsCodes, SpellsSsa, SpellsSsas, SpellsGiven}
-use Rattle.call_text.specs.Reading.{begins_blank, codes_at, begins_with, qualification_at, ssa_at, begins_word, begins_ssa, ssas_at, given_at}
+use Rattle.call_text.specs.Reading.{begins_blank, codes_at, qualification_at, ssa_at, begins_word, begins_ssa, ssas_at, given_at}
 use Rattle.call_text.proofs.Runs.{both, Stops, name_bytes, in_words}
 use Rattle.call_text.proofs.Stopping.{other_byte, stops_gap, stops_room, stops_end, word_blank, value_no_blank}
 use Rattle.call_text.proofs.Again.{name_again, word_again, past_gap, value_again}

@@ -11,10 +11,10 @@ use Rattle.call_text.specs.declared.fault.Fault.{Fault}
 use Rattle.call_text.specs.declared.fault.Fault.TheVariants as faults
 use Rattle.call_text.specs.declared.line.Value.{Value}
 use Rattle.call_text.specs.declared.line.Value.TheVariants.{Text, Hex}
-use Rattle.call_text.specs.Words.{is_blank, past, in_word, is_word}
+use Rattle.call_text.specs.Words.{is_blank, past, in_word, is_word, is_hex, hex_value}
 use Rattle.call_text.specs.Printing.{is_printable, doubled, quoted}
 use Rattle.call_text.specs.Spelling.{IsGap, IsRoom, SpellsName, SpellsWord, SpellsPairs, SpellsHex, SpellsValue}
-use Rattle.call_text.specs.Reading.{◌>>=◌, name_at, word_at, text_at, is_hex, hex_value, close_at, pairs_at, hex_at, value_at, begins_word}
+use Rattle.call_text.specs.Reading.{◌>>=◌, name_at, word_at, text_at, close_at, pairs_at, hex_at, value_at, begins_word}
 use Rattle.call_text.proofs.Loops.{onto}
 use Rattle.call_text.proofs.Runs.{both, Stops}
 use Rattle.call_text.proofs.ValuesPrinted.{Prints}

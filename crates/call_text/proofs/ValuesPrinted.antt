@@ -3,13 +3,13 @@ use Rattle.std.proofs.Common.{◌≡◌, ℕ, ◌+◌, ◌*◌, ◌/◌, ◌%◌
 use Rattle.std.specs.List.{list_all, flat_map}
 use Rattle.std.proofs.lemmas.List.Folds.{list_all-append}
 use Rattle.hal_base.specs.Name.{is_name_byte, upper}
+use Rattle.call_text.specs.Words.{is_hex, hex_value}
 use Rattle.call_text.specs.declared.line.Value.{Value}
 use Rattle.call_text.specs.declared.line.Value.TheVariants.{Text, Hex}
 use Rattle.call_text.specs.Printing.{is_printable, doubled, quoted, hex_digit, hex_pair, in_hex, printed_value}
 use Rattle.call_text.specs.Printed.{bytes_of}
 use Rattle.call_text.specs.Plain.{plain_value}
 use Rattle.call_text.specs.Spelling.{SpellsName, SpellsWord, SpellsPairs, SpellsHex, SpellsValue}
-use Rattle.call_text.specs.Reading.{is_hex, hex_value}
 use Rattle.call_text.proofs.Runs.{both, all_weaker, name_bytes, word_bytes}
 
 abbrev pub Prints : List ℕ → Type 0

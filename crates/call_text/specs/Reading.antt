@@ -1,5 +1,5 @@
 -- Reading from left to right, with the first fault that is met: what stands there in the forms of a line.
-use Rattle.std.specs.Prelude.{◌≡◌, ℕ, zero, suc, ◌+◌, ◌-◌, ◌*◌, ◌&&◌, ◌||◌, Bool, true, false, nat_le, nat_lt, ◌==◌, if◌then◌else◌, List, [], ◌∷◌, length, map, Option, Some, None, Result, Ok, Err, codes}
+use Rattle.std.specs.Prelude.{◌≡◌, ℕ, zero, suc, ◌+◌, ◌*◌, ◌&&◌, ◌||◌, Bool, true, false, nat_lt, ◌==◌, if◌then◌else◌, List, [], ◌∷◌, length, map, Option, Some, None, Result, Ok, Err, codes}
 use Rattle.std.specs.List.{list_all, take_while}
 use Rattle.std.specs.Str.{bytes_eq}
 use Rattle.hal_base.specs.Name.{is_name, upper}
@@ -17,7 +17,7 @@ use Rattle.call_text.specs.declared.line.Line.{Line}
 use Rattle.call_text.specs.declared.line.Line.TheVariants as lines
 use Rattle.call_text.specs.Printing.{is_printable}
 use Rattle.call_text.specs.Printed.{is_sign}
-use Rattle.call_text.specs.Words.{is_blank, past, in_word, is_letter, is_word, is_number, is_count, number_of}
+use Rattle.call_text.specs.Words.{is_blank, past, in_word, is_letter, is_word, is_number, is_count, number_of, is_hex, hex_value, printed_operator, is_reserved, is_silent, begins_with}
 
 infixl 10 ◌>>=◌
 abbrev pub ◌>>=◌ : {A B : Type 0} → Result A Fault → (A → Result B Fault) → Result B Fault
@@ -52,13 +52,6 @@ text_at [] = Err faults.Value
 text_at (b ∷ []) = if b == 39 then Ok ([], []) else Err faults.Value
 text_at (b ∷ c ∷ rest) = if b == 39 then (if c == 39 then (text_at rest >>= λ more. Ok (39 ∷ more.0, more.1)) else Ok ([], c ∷ rest)) else (text_at (c ∷ rest) >>= λ more. Ok (b ∷ more.0, more.1))
 
-abbrev pub is_hex : ℕ → Bool
-is_hex b = (nat_le 48 b && nat_le b 57) || (nat_le 65 (upper b) && nat_le (upper b) 70)
-
--- 0 to 9, then A to F in either case
-abbrev pub hex_value : ℕ → ℕ
-hex_value b = if nat_le b 57 then b - 48 else upper b - 55
-
 -- the closing quote
 abbrev pub close_at : List ℕ → Result (List ℕ × List ℕ) Fault
 close_at [] = Err faults.Value
@@ -86,10 +79,6 @@ unfoldable pub value_at : List ℕ → Result (Value × List ℕ) Fault
 value_at [] = Err faults.Form
 value_at (a ∷ []) = if a == 39 then (text_at [] >>= λ read. Ok (Text read.0, read.1)) else Err faults.Form
 value_at (a ∷ b ∷ rest) = if a == 39 then (text_at (b ∷ rest) >>= λ read. Ok (Text read.0, read.1)) else if upper a == 88 && b == 39 then (hex_at rest >>= λ read. Ok (Hex read.0, read.1)) else Err faults.Form
-
--- an operator as it is printed: a known one by its kind, any other as it stands
-abbrev pub printed_operator : List ℕ → List ℕ
-printed_operator op = if bytes_eq op (codes "EQ") then codes "=" else if bytes_eq op (codes "GT") then codes ">" else if bytes_eq op (codes "LT") then codes "<" else if bytes_eq op (codes "GE") then codes ">=" else if bytes_eq op (codes "=>") then codes ">=" else if bytes_eq op (codes "LE") then codes "<=" else if bytes_eq op (codes "=<") then codes "<=" else op
 
 abbrev pub begins_blank : List ℕ → Bool
 begins_blank [] = false
@@ -134,10 +123,6 @@ unfoldable pub codes_at : List ℕ → Result (List ℕ × List ℕ) Fault
 codes_at [] = Ok ([], [])
 codes_at (b ∷ rest) = if b == 42 then word_at rest else Ok ([], b ∷ rest)
 
-abbrev pub begins_with : ℕ → List ℕ → Bool
-begins_with byte [] = false
-begins_with byte (b ∷ rest) = b == byte
-
 abbrev pub behind : List ℕ → List ℕ
 behind [] = []
 behind (b ∷ rest) = rest
@@ -180,10 +165,6 @@ call_at session text = do
   ssas ← ssas_at (length func.1) func.1
   content ← given_at (past is_blank ssas.1)
   Ok (lines.Call (record { session = session; func = func.0; ssas = ssas.0; content = content }))
-
--- PCB and REORG are no names of sessions
-abbrev pub is_reserved : List ℕ → Bool
-is_reserved name = bytes_eq name (codes "PCB") || bytes_eq name (codes "REORG")
 
 unfoldable pub session_at : List ℕ → Result (List ℕ × List ℕ) Fault
 session_at text = do
@@ -229,10 +210,6 @@ unfoldable pub form_at : List ℕ → Result Line Fault
 form_at text = do
   first ← name_at (past is_blank text)
   if bytes_eq first.0 (codes "PCB") then open_at first.1 else if bytes_eq first.0 (codes "REORG") then reorg_at first.1 else call_at first.0 first.1
-
--- nothing but blanks, or a note
-abbrev pub is_silent : List ℕ → Bool
-is_silent text = list_all is_blank text || begins_with 42 text
 
 abbrev pub cause_of : Fault → ℕ
 cause_of faults.Form = 3

@@ -15,8 +15,7 @@ use Rattle.call_text.specs.declared.line.Line.{Line}
 use Rattle.call_text.specs.declared.line.Line.TheVariants as lines
 use Rattle.call_text.specs.Printing.{is_printable, quoted}
 use Rattle.call_text.specs.Printed.{is_sign, command_word}
-use Rattle.call_text.specs.Words.{is_blank, is_letter, is_word, is_number, is_count, number_of}
-use Rattle.call_text.specs.Reading.{is_hex, hex_value, printed_operator, is_reserved, is_silent}
+use Rattle.call_text.specs.Words.{is_blank, is_letter, is_word, is_number, is_count, number_of, is_hex, hex_value, printed_operator, is_reserved, is_silent}
 
 abbrev pub IsGap : List ℕ → Type 0
 IsGap gap = list_all is_blank gap ≡ true

@@ -1,6 +1,7 @@
--- Blanks and words.
-use Rattle.std.specs.Prelude.{ℕ, ◌+◌, ◌-◌, ◌*◌, ◌&&◌, ◌||◌, Bool, nat_le, nat_lt, ◌==◌, List, length, drop, fold}
+-- Blanks, words, operators and digits.
+use Rattle.std.specs.Prelude.{ℕ, ◌+◌, ◌-◌, ◌*◌, ◌&&◌, ◌||◌, Bool, false, nat_le, nat_lt, ◌==◌, if◌then◌else◌, List, [], ◌∷◌, length, drop, fold, codes}
 use Rattle.std.specs.List.{list_all, prefix_len}
+use Rattle.std.specs.Str.{bytes_eq}
 use Rattle.hal_base.specs.Name.{is_name_byte, is_digit, upper}
 
 abbrev pub is_blank : ℕ → Bool
@@ -35,3 +36,26 @@ is_count digits = nat_le (length digits) 4 && nat_le 1 (number_of digits) && nat
 -- one digit or more, and nothing else
 abbrev pub is_number : List ℕ → Bool
 is_number word = nat_lt 0 (length word) && list_all is_digit word
+
+abbrev pub is_hex : ℕ → Bool
+is_hex b = (nat_le 48 b && nat_le b 57) || (nat_le 65 (upper b) && nat_le (upper b) 70)
+
+-- 0 to 9, then A to F in either case
+abbrev pub hex_value : ℕ → ℕ
+hex_value b = if nat_le b 57 then b - 48 else upper b - 55
+
+-- an operator as it is printed: a known one by its kind, any other as it stands
+abbrev pub printed_operator : List ℕ → List ℕ
+printed_operator op = if bytes_eq op (codes "EQ") then codes "=" else if bytes_eq op (codes "GT") then codes ">" else if bytes_eq op (codes "LT") then codes "<" else if bytes_eq op (codes "GE") then codes ">=" else if bytes_eq op (codes "=>") then codes ">=" else if bytes_eq op (codes "LE") then codes "<=" else if bytes_eq op (codes "=<") then codes "<=" else op
+
+-- PCB and REORG are no names of sessions
+abbrev pub is_reserved : List ℕ → Bool
+is_reserved name = bytes_eq name (codes "PCB") || bytes_eq name (codes "REORG")
+
+abbrev pub begins_with : ℕ → List ℕ → Bool
+begins_with byte [] = false
+begins_with byte (b ∷ rest) = b == byte
+
+-- nothing but blanks, or a note
+abbrev pub is_silent : List ℕ → Bool
+is_silent text = list_all is_blank text || begins_with 42 text

@@ -5,7 +5,6 @@ ghost use Rattle.call_text.specs.Printing.{printed_value};
 ghost use Rattle.call_text.specs.Printed.{is_sign, operator_text, bytes_of, clause_text, connector, joined_clause, clauses_text, codes_text, ssa_text, next_ssa, given_text, call_text, index_text, open_text, command_word, count_text, reorg_text, printed_line, HasForm};
 ghost use Rattle.call_text.specs.Plain.{plain_line, IsPlain};
 ghost use Rattle.call_text.specs.Spelling.{Spells};
-ghost use Rattle.call_text.specs.Reading.{line_of};
 
 use crate::values::{put_number, put_value};
 use crate::{Call, Clause, Command, Line, Open, Ssa, Value};
@@ -211,9 +210,9 @@ fn printed(alloc: Global, line: &Line) -> Result<Bytes, Memory>
 pub fn print_line(alloc: Global, line: &Line) -> Result<Bytes, Memory>
     requires { HasForm line.now }
     ensures exact { IfOk result (λ text. text ≡ printed_line line.now) }
-    // Where it isn't too long it is read as the line that it came from, but that a hexadecimal value of
-    // printable bytes alone is a text.
-    ensures again { (text : List ℕ) → Spells text line.now → length (printed_line line.now) ≤ 8192 → line_of (printed_line line.now) ≡ plain_line line.now }
+    // Where it isn't too long it spells the line that it came from, but that a hexadecimal value of printable
+    // bytes alone is a text.
+    ensures again { (text : List ℕ) → Spells text line.now → length (printed_line line.now) ≤ 8192 → Spells (printed_line line.now) (plain_line line.now) }
     // That line prints the same, and is the very line where there is no such value.
     ensures same { printed_line (plain_line line.now) ≡ printed_line line.now }
     ensures kept { IsPlain line.now → plain_line line.now ≡ line.now }

@@ -1,6 +1,7 @@
 // Segment search arguments, as they are read.
 ghost use Rattle.std.specs.Prelude.{◌≡◌, Some, false, length};
-ghost use Rattle.call_text.specs.Reading.{Gives, clause_at, connector_at, clause_and_connector_at, clauses_at, codes_at, begins_with, behind, qualification_at, ssa_at, begins_ssa, ssas_at};
+ghost use Rattle.call_text.specs.Words.{begins_with};
+ghost use Rattle.call_text.specs.Reading.{Gives, clause_at, connector_at, clause_and_connector_at, clauses_at, codes_at, behind, qualification_at, ssa_at, begins_ssa, ssas_at};
 
 use crate::fault::{Fault, ReadError};
 use crate::read_values::{operator_of, value_of};

@@ -2,9 +2,9 @@
 ghost use Rattle.std.specs.Prelude.{◌≡◌, [], ◌<◌, ◌≤◌, true, length, IfOk, IfSome, option_map};
 ghost use Rattle.std.specs.List.{list_all, prefix_len, take_while};
 ghost use Rattle.hal_base.specs.Name.{upper};
-ghost use Rattle.call_text.specs.Words.{past};
+ghost use Rattle.call_text.specs.Words.{past, is_hex, hex_value, printed_operator};
 ghost use Rattle.call_text.specs.Printed.{is_sign};
-ghost use Rattle.call_text.specs.Reading.{Gives, text_byte_at, text_at, is_hex, hex_value, close_at, pair_at, pairs_at, hex_at, value_at, printed_operator, operator_word_at, operator_at};
+ghost use Rattle.call_text.specs.Reading.{Gives, text_byte_at, text_at, close_at, pair_at, pairs_at, hex_at, value_at, operator_word_at, operator_at};
 
 use crate::Value;
 use crate::fault::{Fault, ReadError};

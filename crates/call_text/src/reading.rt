@@ -3,10 +3,11 @@ ghost use Rattle.std.specs.Prelude.{◌≡◌, ℕ, List, IfOk, length};
 ghost use Rattle.std.specs.List.{list_all};
 ghost use Rattle.call_text.specs.Printing.{is_printable};
 ghost use Rattle.call_text.specs.Printed.{HasForm};
-ghost use Rattle.call_text.specs.Words.{past, in_word};
+ghost use Rattle.call_text.specs.Words.{past, in_word, is_reserved, is_silent};
 ghost use Rattle.call_text.specs.declared.line.Line.{Line};
 ghost use Rattle.call_text.specs.Spelling.{Spells};
-ghost use Rattle.call_text.specs.Reading.{Gives, given_at, call_at, is_reserved, session_at, index_at, open_at, plain_command, command_at, reorg_at, form_at, is_silent, cause_of, line_of};
+ghost use Rattle.call_text.specs.Faults.{IsCaused};
+ghost use Rattle.call_text.specs.Reading.{Gives, given_at, call_at, session_at, index_at, open_at, plain_command, command_at, reorg_at, form_at, cause_of, line_of};
 
 use crate::fault::{Fault, ReadError};
 use crate::read_ssas::ssas_of;
@@ -204,7 +205,7 @@ pub fn read_line(alloc: Global, line: &[u8]) -> Result<Line, Memory>
     // What is spelled so is read.
     ensures only { (form : Line) → Spells line.now form → IfOk result (λ read. read ≡ form) }
     // Which cause it is, where the text spells no line.
-    ensures exact { IfOk result (λ read. read ≡ line_of line.now) }
+    ensures cause { IfOk result (λ read. IsCaused line.now read) }
 {
     read(alloc, line)
 }

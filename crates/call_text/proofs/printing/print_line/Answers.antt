@@ -1,11 +1,8 @@
-use Rattle.call_text.specs.Printed.{printed_line}
-use Rattle.call_text.specs.Plain.{plain_line}
-use Rattle.call_text.proofs.LinesAgain.{line_again}
 use Rattle.call_text.proofs.LinesPrinted.{line_printed, line_same, line_kept}
 use Rattle.call_text.proofs.printing.print_line.Goals as goal
 
 pub returns-clause-again : goal.returns-clause-again
-returns-clause-again c = λ text h short. line_again (printed_line c.args.line.now) (plain_line c.args.line.now) (line_printed text c.args.line.now h short)
+returns-clause-again c = λ text h short. line_printed text c.args.line.now h short
 
 pub returns-clause-same : goal.returns-clause-same
 returns-clause-same c = line_same c.args.line.now
