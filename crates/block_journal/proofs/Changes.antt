@@ -1,5 +1,5 @@
 -- Changes made to a list of blocks, and to the image that the blocks are read from.
-use Rattle.std.proofs.Common.{◌≡◌, ◌≢◌, ◌⊎◌, inl, inr, ⊎_elim, ℕ, zero, suc, ◌+◌, ◌-◌, ◌*◌, ◌^◌, ◌<◌, ◌≤◌, List, [], ◌∷◌, ◌++◌, length, get_or, set, refl, sym, ◌∙◌, ap, subst, arith, length-append, get_or-set_same, get_or-set_other}
+use Rattle.std.proofs.Common.{◌≡◌, ◌⊎◌, inl, inr, ⊎_elim, ℕ, zero, suc, ◌+◌, ◌*◌, ◌^◌, ◌<◌, ◌≤◌, List, [], ◌∷◌, ◌++◌, length, get_or, set, refl, sym, ◌∙◌, ap, subst, arith, length-append, get_or-set_same, get_or-set_other}
 use Rattle.std.specs.List.{flat_map}
 use Rattle.std.specs.Int.{w32, from_be_bytes, to_be_bytes}
 use Rattle.std.proofs.lemmas.List.{length-set, ext_get_or, get_or_past, set_past, get_or_append_left, get_or-append-add}
@@ -9,7 +9,7 @@ use Rattle.hal_base.specs.Disk.{written}
 use Rattle.block_journal.specs.declared.change.Change.{Change}
 use Rattle.block_journal.specs.Redo.{bytes_at, number_at, blocks_at, changes_at, put_all, put_image, change_bytes}
 use Rattle.block_journal.specs.Placing.{AreWhole, IsOutside, SameBut}
-use Rattle.block_journal.proofs.Images.{SameFrom, SameOutside, HoldsAt, bytes_at-same, bytes_at-is, length-bytes_at, written_inside, written_outside, length-written}
+use Rattle.block_journal.proofs.Images.{SameFrom, HoldsAt, bytes_at-same, bytes_at-is, written_inside, written_outside, length-written}
 
 Blocks : Type 0
 Blocks = List (List ℕ)

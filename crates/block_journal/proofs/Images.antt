@@ -1,9 +1,8 @@
 -- Images byte by byte: what a write changes, and what a write that is done in part leaves.
-use Rattle.std.proofs.Common.{◌≡◌, ◌≢◌, ◌⊎◌, inl, inr, ⊎_elim, ℕ, zero, suc, ◌+◌, ◌-◌, ◌*◌, ◌<◌, ◌≤◌, min, List, [], ◌∷◌, ◌++◌, length, get_or, take, drop, replicate, refl, sym, ◌∙◌, ap, subst, arith, length-append, length-drop, append_assoc}
+use Rattle.std.proofs.Common.{◌≡◌, ◌⊎◌, ⊎_elim, ℕ, zero, suc, ◌+◌, ◌-◌, ◌<◌, ◌≤◌, min, List, [], ◌∷◌, ◌++◌, length, get_or, take, drop, replicate, refl, sym, ◌∙◌, ap, arith, length-append, length-drop, append_assoc}
 use Rattle.std.proofs.lemmas.List.{get_or-take, get_or-drop, get_or_append_left, get_or-append_right, length-take-le, append-nil}
-use Rattle.std.proofs.lemmas.Bool.{cases_lt}
 use Rattle.hal_base.specs.Disk.{written, Torn}
-use Rattle.block_journal.specs.Redo.{bytes_at, number_at, blocks_at}
+use Rattle.block_journal.specs.Redo.{bytes_at}
 
 -- at each place of a range that begins at `at`, the same byte
 pub record SameFrom (at n : ℕ) (x y : List ℕ) : Type 0 where
@@ -85,11 +84,6 @@ written_outside at bytes image le = record { byte = λ i where_is. ⊎_elim (bef
         ∙ ap (λ (k : ℕ). get_or image k 0) is
 
 -- what a range holds
-pub length-bytes_at : (at n : ℕ) (image : List ℕ) → length (bytes_at at n image) ≡ n
-unfolding bytes_at
-length-bytes_at at zero image = refl
-length-bytes_at at (suc n) image = omega (arith, length-bytes_at (at + 1) n image)
-
 pub bytes_at-same : (at n : ℕ) (x y : List ℕ) → SameFrom at n x y → bytes_at at n x ≡ bytes_at at n y
 unfolding bytes_at
 bytes_at-same at zero x y same = refl

@@ -1,3 +1,4 @@
+pub mod BodyReads
 pub mod Calls
 pub mod Changes
 pub mod Torn
@@ -8,3 +9,6 @@ pub mod Rising
 pub mod Place
 pub mod Standing
 pub mod Reading
+pub mod Redoing
+pub mod RedoSteps
+pub mod OpeningSteps

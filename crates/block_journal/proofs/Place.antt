@@ -1,12 +1,12 @@
 -- The place of a change among those in the order of their numbers.
-use Rattle.std.proofs.Common.{◌≡◌, ◌≢◌, ◌⊎◌, inl, inr, ⊎_elim, ℕ, zero, suc, ◌+◌, ◌*◌, ◌<◌, ◌≤◌, Bool, true, false, cond, IsTrue, ◌↔◌, nat_lt, ◌==◌, List, [], ◌∷◌, ◌++◌, length, get_or, set, take, drop, refl, sym, ◌∙◌, ap, subst, arith, get_or-set_same, get_or-set_other}
-use Rattle.std.proofs.lemmas.Bool.{lt-ltb, le-ltb, eq-eqb, ne_eqb, cases_lt, cases_eq, iff_false}
+use Rattle.std.proofs.Common.{◌≡◌, ⊎_elim, ℕ, zero, suc, ◌+◌, ◌<◌, ◌≤◌, Bool, true, false, cond, IsTrue, ◌↔◌, ◌==◌, List, [], ◌∷◌, ◌++◌, length, get_or, set, take, drop, refl, sym, ◌∙◌, ap, subst, arith, get_or-set_same, get_or-set_other}
+use Rattle.std.proofs.lemmas.Bool.{lt-ltb, le-ltb, eq-eqb, ne_eqb, cases_lt, iff_false}
 use Rattle.std.proofs.lemmas.List.{drop_more, drop_all, length-set}
 use Rattle.block_journal.specs.declared.change.Change.{Change}
 use Rattle.block_journal.specs.Redo.{put_all, are_changes}
 use Rattle.block_journal.specs.Staged.{place_in, put_in, IsAt}
-use Rattle.block_journal.proofs.Changes.{IsNamed, put_all-other, length-put_all}
-use Rattle.block_journal.proofs.Rising.{Parts, parts, not_named, other_is}
+use Rattle.block_journal.proofs.Changes.{IsNamed}
+use Rattle.block_journal.proofs.Rising.{parts, not_named, other_is}
 
 place_low : (n : ℕ) (c : Change) (cs : List Change) → c.number < n → place_in n (c ∷ cs) ≡ suc (place_in n cs)
 unfolding place_in
@@ -48,10 +48,6 @@ put_before n b c cs le ne =
 put_nil : (n : ℕ) (b : List ℕ) → put_in n b [] ≡ record { number = n; content = b } ∷ []
 unfolding put_in
 put_nil n b = refl
-
--- a place k in the list is that of the number n
-abbrev IsPlace : ℕ → ℕ → List Change → Type 0
-IsPlace n k cs = k ≡ place_in n cs
 
 pub put_set : (n k : ℕ) (b : List ℕ) (cs : List Change) (d : Change) → k ≡ place_in n cs → k < length cs → (get_or cs k d).number ≡ n → set cs k (record { number = n; content = b }) ≡ put_in n b cs
 put_set n k b [] d place lt is = absurd (omega (arith, lt))

@@ -1,14 +1,14 @@
 -- What may be left while blocks are being written to their places.
-use Rattle.std.proofs.Common.{◌≡◌, ◌⊎◌, inl, inr, ⊎_elim, ℕ, zero, suc, ◌+◌, ◌*◌, ◌<◌, ◌≤◌, List, [], ◌∷◌, ◌++◌, length, take, get_or, Option, None, Some, option_map, refl, sym, ◌∙◌, ap, subst, arith}
+use Rattle.std.proofs.Common.{◌≡◌, inl, inr, ⊎_elim, ℕ, zero, suc, ◌+◌, ◌*◌, ◌<◌, List, [], ◌∷◌, length, take, get_or, Option, None, Some, option_map, refl, sym, ◌∙◌, ap, arith}
 use Rattle.std.proofs.lemmas.List.{take_more}
-use Rattle.hal_base.specs.Disk.{Torn, written}
+use Rattle.hal_base.specs.Disk.{written}
 use Rattle.hal_base.specs.Stops.{LeavesOnly, TornFrom}
 use Rattle.hal_base.proofs.StopLemmas.{leaves-then, leaves-now}
 use Rattle.block_journal.specs.Redo.{put_image}
 use Rattle.block_journal.proofs.Changes.{put_image-more}
 use Rattle.block_journal.specs.declared.change.Change.{Change}
-use Rattle.block_journal.specs.Placing.{AreWhole, IsOutside, SameBut, PlacedFrom}
-use Rattle.block_journal.proofs.Images.{SameOutside, torn_outside}
+use Rattle.block_journal.specs.Placing.{AreWhole, IsOutside, PlacedFrom}
+use Rattle.block_journal.proofs.Images.{torn_outside}
 
 pub placed_one : (outcomes : List ℕ → List ℕ → Type 0) (first count at n : ℕ) (c : Change) (x s : List ℕ) → c.number < count → at ≡ first + 4096 * c.number → n ≡ 4096 → TornFrom outcomes at n x s → PlacedFrom outcomes first count (c ∷ []) x s
 placed_one outcomes first count at n c x s below at_is n_is from = (

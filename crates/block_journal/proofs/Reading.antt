@@ -1,13 +1,13 @@
 -- What an opening reads.
-use Rattle.std.proofs.Common.{◌≡◌, ◌⊎◌, inl, inr, ⊎_elim, ℕ, zero, suc, ◌+◌, ◌-◌, ◌*◌, ◌<◌, ◌≤◌, min, List, [], ◌∷◌, ◌++◌, length, get_or, take, drop, replicate, Bool, true, false, not, cond, Result, Ok, Err, OnOk, is_ok, Option, None, Some, option_map, refl, sym, ◌∙◌, ap, subst, arith, length-append, length-drop, append_assoc}
+use Rattle.std.proofs.Common.{◌≡◌, ⊎_elim, ℕ, zero, suc, ◌+◌, ◌-◌, ◌*◌, ◌<◌, ◌≤◌, List, [], ◌∷◌, ◌++◌, length, get_or, ◌==◌, take, drop, replicate, Option, None, Some, option_map, refl, sym, ◌∙◌, ap, subst, arith, length-append, length-drop, append_assoc}
 use Rattle.std.specs.Prelude.{IfSome, All}
 use Rattle.std.proofs.lemmas.List.{length-take, take_all, drop_all, append-nil, replicate_more, get_or_append_left, get_or-append_right, get_or-replicate, get_or_past, get_or-take, get_or-drop, length-replicate}
-use Rattle.std.proofs.lemmas.Bool.{cases_lt, both_ways}
+use Rattle.std.proofs.lemmas.Bool.{cases_lt, ne_eqb}
 use Rattle.hal_base.specs.Disk.{written}
 use Rattle.hal_base.proofs.ImageLemmas.{length-written_max}
-use Rattle.block_journal.specs.Redo.{bytes_at, blocks_at, journal_start}
-use Rattle.block_journal.specs.Opening.{IsReady, ReadsBlock, ReadsBlocks}
-use Rattle.block_journal.proofs.Images.{HoldsAt, bytes_at-is}
+use Rattle.block_journal.specs.Redo.{bytes_at, blocks_at, is_open}
+use Rattle.block_journal.specs.Opening.{IsReady, ReadsBlock}
+use Rattle.block_journal.proofs.Images.{bytes_at-is}
 
 zeros_at : (k i : ℕ) → get_or {A = ℕ} (replicate k 0) i 0 ≡ 0
 zeros_at k i = ⊎_elim (λ lt. get_or-replicate {A = ℕ} k i 0 0 lt) (λ le. get_or_past {X = ℕ} (replicate k 0) i 0 (omega (arith, le, length-replicate {A = ℕ} k 0))) (cases_lt i k)
@@ -77,8 +77,13 @@ pub blocks_none : (at : ℕ) (image : List ℕ) → blocks_at at 0 image ≡ []
 unfolding blocks_at
 blocks_none at image = refl
 
-pub gate_read : (n : ℕ) (buf : List ℕ) (image : Option (List ℕ)) (y : List ℕ) → image ≡ Some y → IfSome image (λ bytes. take n buf ≡ take (length buf) (drop 4096 bytes)) → length buf ≡ 1 → n ≤ length buf → (n ≡ 1 → ⊥) → 4096 < length y → ⊥
-gate_read n buf image y told read one within ne long = omega (arith, short_from 4096 n buf image y told read one within ne, long)
+-- a read of the gate that gave its byte, and one that gave none
+pub gate_byte : (n : ℕ) (buf : List ℕ) (image : Option (List ℕ)) (y : List ℕ) → image ≡ Some y → IfSome image (λ bytes. take n buf ≡ take (length buf) (drop 4096 bytes)) → length buf ≡ 1 → n ≡ 1 → (get_or buf 0 0 == 1) ≡ is_open y
+gate_byte n buf None y told read one whole = absurd (none_told y told)
+gate_byte n buf (Some x) y told read one whole = ap (λ (b : ℕ). b == 1) (sym (get_or-take n buf 0 0 (omega (arith, whole))) ∙ ap (λ (l : List ℕ). get_or l 0 0) read ∙ get_or-take (length buf) (drop 4096 x) 0 0 (omega (arith, one)) ∙ get_or-drop 4096 x 0 0 ∙ ap (λ (l : List ℕ). get_or l 4096 0) (some_is x y told))
+
+pub gate_none : (n : ℕ) (buf : List ℕ) (image : Option (List ℕ)) (y : List ℕ) → image ≡ Some y → IfSome image (λ bytes. take n buf ≡ take (length buf) (drop 4096 bytes)) → length buf ≡ 1 → n ≤ length buf → (n ≡ 1 → ⊥) → (n == 1) ≡ is_open y
+gate_none n buf image y told read one within ne = ne_eqb n 1 ne ∙ ap (λ (b : ℕ). b == 1) (sym (get_or_past y 4096 0 (short_from 4096 n buf image y told read one within ne)))
 
 -- one block more was read
 pub blocks_more : (first k count : ℕ) (told now : Option (List ℕ)) (blocks : List (List ℕ)) (block : List ℕ) → now ≡ told → k < count → ((y : List ℕ) → told ≡ Some y → first + 4096 * count ≤ length y → blocks ≡ blocks_at first k y) → ReadsBlock (first + 4096 * k) now block
@@ -99,10 +104,3 @@ whole_more blocks block each whole k d lt = ⊎_elim
     last le =
         let none : k - length blocks ≡ 0 = omega (arith, le, lt, length-append blocks (block ∷ [])) in
         get_or-append_right blocks (block ∷ []) (length blocks) k d refl le ∙ ap (λ (j : ℕ). get_or (block ∷ []) j d) none
-
-pub pushed_is : (items blocks : List (List ℕ)) (block : List ℕ) (pushed failed : Bool) → items ≡ cond pushed (blocks ++ block ∷ []) blocks → pushed ≡ not failed → failed ≡ false → items ≡ blocks ++ block ∷ []
-pushed_is items blocks block pushed failed is went ok = is ∙ ap (λ (b : Bool). cond b (blocks ++ block ∷ []) blocks) (went ∙ ap not ok)
-
-pub ok_of : {T E P : Type 0} (result : Result T E) (failed : Bool) → OnOk result P → is_ok result ≡ not failed → failed ≡ false → P
-ok_of (Ok x) failed p went ok = p
-ok_of (Err e) failed p went ok = absurd (both_ways (not failed) (sym went) (ap not ok))

@@ -1,12 +1,12 @@
 -- Changes whose numbers rise.
-use Rattle.std.proofs.Common.{◌≡◌, ◌≢◌, ◌⊎◌, inl, inr, ⊎_elim, ℕ, zero, suc, ◌+◌, ◌*◌, ◌<◌, ◌≤◌, Bool, true, false, ◌&&◌, cond, nat_lt, nat_le, ◌==◌, IsTrue, List, [], ◌∷◌, ◌++◌, length, get_or, set, take, drop, refl, sym, ◌∙◌, ap, subst, arith, get_or-set_same, get_or-set_other}
-use Rattle.std.proofs.lemmas.Bool.{and_parts, ltb-true, leb-true, eqb-true, lt-ltb, le-ltb, le-leb, eq-eqb, ne_eqb, cases_lt, cases_eq, cases_order, and_from}
-use Rattle.std.proofs.lemmas.List.{set-set, set_comm, length-set}
+use Rattle.std.proofs.Common.{◌≡◌, ◌≢◌, inl, inr, ⊎_elim, ℕ, ◌+◌, ◌<◌, ◌≤◌, Bool, true, ◌&&◌, cond, nat_lt, nat_le, ◌==◌, List, [], ◌∷◌, length, get_or, set, refl, sym, ◌∙◌, ap, subst, arith}
+use Rattle.std.proofs.lemmas.Bool.{and_parts, ltb-true, leb-true, eqb-true, lt-ltb, le-ltb, le-leb, eq-eqb, ne_eqb, cases_lt, cases_eq, and_from}
+use Rattle.std.proofs.lemmas.List.{set-set, set_comm}
 use Rattle.block_journal.specs.declared.change.Change.{Change}
 use Rattle.block_journal.specs.Redo.{put_all, are_changes}
 use Rattle.block_journal.specs.Placing.{AreWhole}
-use Rattle.block_journal.specs.Staged.{place_in, put_in}
-use Rattle.block_journal.proofs.Changes.{IsNamed, put_all-other, length-put_all}
+use Rattle.block_journal.specs.Staged.{put_in}
+use Rattle.block_journal.proofs.Changes.{IsNamed, put_all-other}
 
 -- what the test says of the first change and of the others
 pub record Parts (from count : ℕ) (c : Change) (cs : List Change) : Type 0 where
@@ -23,7 +23,7 @@ parts from count c cs is =
     let d = and_parts (nat_le from c.number) (nat_lt c.number count) b.0 in
     record { low = leb-true from c.number d.0; high = ltb-true c.number count d.1; whole = eqb-true (length c.content) 4096 b.1; rest = a.1 }
 
-joined : (from count : ℕ) (c : Change) (cs : List Change) → Parts from count c cs → are_changes from count (c ∷ cs) ≡ true
+pub joined : (from count : ℕ) (c : Change) (cs : List Change) → Parts from count c cs → are_changes from count (c ∷ cs) ≡ true
 unfolding are_changes
 joined from count c cs p =
     and_from (nat_le from c.number && nat_lt c.number count && length c.content == 4096) (are_changes (c.number + 1) count cs)

@@ -1,6 +1,6 @@
 -- What a journal tells, by what its site tells.
-use Rattle.std.proofs.Common.{◌≡◌, ◌⊎◌, inl, inr, ⊎_elim, ℕ, ◌+◌, ◌<◌, ◌≤◌, Bool, true, false, IsTrue, List, [], ◌∷◌, ◌++◌, length, get_or, set, Option, None, Some, option_map, Result, Ok, Err, OnOk, OnErr, is_err, refl, sym, ◌∙◌, ap, subst, arith, cond, nat_le}
-use Rattle.std.specs.Prelude.{All, IfSome, IfOk}
+use Rattle.std.proofs.Common.{◌≡◌, inl, inr, ⊎_elim, ℕ, ◌<◌, ◌≤◌, Bool, true, false, List, [], ◌∷◌, ◌++◌, length, set, Option, None, Some, option_map, Result, Ok, Err, OnOk, OnErr, is_err, refl, sym, ◌∙◌, ap, subst, arith, cond, nat_le}
+use Rattle.std.specs.Prelude.{All, IfSome}
 use Rattle.std.proofs.lemmas.List.Elements.{All-set}
 use Rattle.std.proofs.lemmas.Bool.{cases_Bool, leb-true, le-leb, true≢false}
 use Rattle.std.proofs.lemmas.List.{append-nil}
@@ -11,13 +11,12 @@ use Rattle.hal_base.proofs.StopLemmas.{leaves-read, leaves-now}
 use Rattle.block_journal.specs.declared.change.Change.{Change}
 use Rattle.block_journal.specs.Commit.{IsSettled, CommitFrom, HasChanges}
 use Rattle.block_journal.specs.Device.{IsExact, SameTold}
-use Rattle.block_journal.specs.Opening.{IsReady, ReadsBlocks}
 use Rattle.block_journal.specs.Placing.{AreWhole}
-use Rattle.block_journal.specs.Redo.{blocks_at, redone, put_all, are_changes, is_open}
+use Rattle.block_journal.specs.Redo.{blocks_at, redone, put_all, are_changes}
 use Rattle.block_journal.specs.Staged.{put_in}
 use Rattle.block_journal.specs.Stands.{Stands, told_where, say_room}
-use Rattle.block_journal.proofs.Torn.{redone_closed}
-use Rattle.block_journal.proofs.Changes.{length-put_all, put_all-none, blocks_at-ext}
+use Rattle.block_journal.proofs.Redoing.{redone_closed}
+use Rattle.block_journal.proofs.Changes.{length-put_all, put_all-none}
 use Rattle.block_journal.proofs.Rising.{are_whole, are_few, put_in_blocks, put_in_changes}
 
 pub told_redone : (first count : ℕ) (kept : List (List ℕ)) (image : Option (List ℕ)) (outcomes : List ℕ → List ℕ → Type 0) → Stands first count kept image outcomes → (x s : List ℕ) → outcomes x s → IsTold (told_where image kept) (redone first count x)
@@ -60,9 +59,6 @@ staged_list (Some x) count n b old new kept is rise = ap Some (ap (λ (l : List 
 pub told_same : (old new : Option (List ℕ)) (blocks : List (List ℕ)) → SameTold old new → told_where new blocks ≡ told_where old blocks
 told_same None new blocks same = ap (λ (i : Option (List ℕ)). told_where i blocks) (same.untold refl)
 told_same (Some x) new blocks same = let t = same.told x refl in ap (λ (i : Option (List ℕ)). told_where i blocks) t.1
-
-pub told_kept : (old new : Option (List ℕ)) (blocks : List (List ℕ)) → new ≡ old → told_where new blocks ≡ told_where old blocks
-told_kept old new blocks is = ap (λ (i : Option (List ℕ)). told_where i blocks) is
 
 -- what a stop leaves of a commit, as lists of blocks
 pub commit_leaves : (first count : ℕ) (cs : List Change) (kept : List (List ℕ)) (image said : Option (List ℕ)) (outcomes : List ℕ → List ℕ → Type 0) → ((y : List ℕ) → image ≡ Some y → blocks_at first count y ≡ kept) → ((x s : List ℕ) → outcomes x s → IsTold said s) → (x s : List ℕ) → CommitFrom outcomes image first count cs x s → CommitLeaves (told_where image kept) (told_where image (put_all cs kept)) said (redone first count x) s
@@ -173,27 +169,3 @@ commit_stands-of (Ok x) first count cs staged kept blocks old new before outcome
 
 pub made_is : (cs staged : List Change) (kept blocks : List (List ℕ)) → cs ≡ staged → blocks ≡ put_all cs kept → blocks ≡ put_all staged kept
 made_is cs staged kept blocks is made = made ∙ ap (λ (l : List Change). put_all l kept) is
-
--- what an opening has made ready and read
-pub load_stands : (first count : ℕ) (kept : List (List ℕ)) (old ready now last : Option (List ℕ)) (opened : Bool) (a b c : ℕ) (first_at second_at last_at : ℕ → List ℕ → List ℕ → Type 0) → 8192 ≤ first → IsReady first count old ready → IsExact ready (first_at a) → now ≡ ready → last ≡ now
-    → ((z : List ℕ) → ready ≡ Some z → 4096 < length z → opened ≡ is_open z) → opened ≡ false → ReadsBlocks first count now kept
-    → LeavesOnly a b first_at second_at (first_at a) → LeavesOnly b c second_at last_at (second_at b) → Stands first count kept last (last_at c)
-load_stands first count kept old ready now last opened a b c first_at second_at last_at behind is_ready exact now_is last_is gate shut reads first_only second_only = record {
-  settled = λ z told.
-      let long = is_ready.long z (back z told) in
-      record { long = long; closed = sym (gate z (back z told) (omega (arith, long, behind))) ∙ shut };
-  blocks = λ z told. sym (reads.are z (sym last_is ∙ told) (is_ready.long z (back z told)));
-  exact = record { only = λ z told x s left. exact.only z (back z told) x s (leaves-now first_only (λ x s left. left) x s (leaves-now second_only (λ x s left. left) x s left)) };
-}
-  where
-    back : (z : List ℕ) → last ≡ Some z → ready ≡ Some z
-    back z told = sym now_is ∙ sym last_is ∙ told
-
-pub load_blocks : (first count : ℕ) (kept : List (List ℕ)) (old ready now : Option (List ℕ)) → IsReady first count old ready → SameTold old ready → now ≡ ready → ReadsBlocks first count now kept → (y : List ℕ) → old ≡ Some y → kept ≡ blocks_at first count y
-load_blocks first count kept old ready now is_ready same now_is reads y told =
-    let t = same.told y told in
-    reads.are t.0 (now_is ∙ t.1) (is_ready.long t.0 t.1) ∙ blocks_at-ext first count t.0 y (record { byte = λ i low high. is_ready.same y t.0 told t.1 i })
-
-pub if_ok_value : {T E : Type 0} {P Q : T → Type 0} (result : Result T E) → IfOk result P → ((x : T) → P x → Q x) → IfOk result Q
-if_ok_value (Ok x) p so = so x p
-if_ok_value (Err e) p so = tt

@@ -1,16 +1,17 @@
 -- How a commit goes on from step to step.
-use Rattle.std.proofs.Common.{◌≡◌, ◌⊎◌, inl, inr, ⊎_elim, ℕ, zero, suc, ◌+◌, ◌-◌, ◌*◌, ◌^◌, ◌<◌, ◌≤◌, max, false, List, [], ◌∷◌, ◌++◌, length, Option, None, Some, option_map, refl, sym, ◌∙◌, ap, subst, arith, length-append}
+use Rattle.std.proofs.Common.{◌≡◌, inl, inr, ℕ, ◌+◌, ◌-◌, ◌*◌, ◌^◌, ◌<◌, ◌≤◌, max, List, [], ◌∷◌, ◌++◌, length, Option, Some, option_map, refl, sym, ◌∙◌, ap, subst, arith, length-append}
 use Rattle.std.specs.List.{flat_map}
 use Rattle.std.specs.Int.{w32, to_be_bytes}
 use Rattle.hal_base.specs.Disk.{Torn, written}
 use Rattle.hal_base.specs.Stops.{LeavesOnly, TornFrom}
 use Rattle.hal_base.proofs.StopLemmas.{leaves-then, leaves-now, leaves-weaken}
 use Rattle.block_journal.specs.declared.change.Change.{Change}
-use Rattle.block_journal.specs.Redo.{blocks_at, put_all, put_image, redone, body_bytes, change_bytes}
-use Rattle.block_journal.specs.Commit.{IsSettled, IsBeforeOrAfter, CommitFrom, HasChanges, last_byte}
+use Rattle.block_journal.specs.Redo.{blocks_at, put_image, redone, body_bytes, change_bytes}
+use Rattle.block_journal.specs.Commit.{IsBeforeOrAfter, CommitFrom, HasChanges, last_byte}
 use Rattle.block_journal.specs.Device.{IsExact}
 use Rattle.block_journal.specs.Placing.{AreWhole, SameBut, PlacedFrom}
-use Rattle.block_journal.proofs.Torn.{Begins, redone_closed, body_torn, gate_torn, blocks_torn, closing_torn, done, long_opened}
+use Rattle.block_journal.proofs.Redoing.{redone_closed}
+use Rattle.block_journal.proofs.Torn.{Begins, body_torn, gate_torn, blocks_torn, closing_torn, done, long_opened}
 
 pub length-flat : (count : ℕ) (cs : List Change) → AreWhole count cs → length (flat_map change_bytes cs) ≡ 4100 * length cs
 length-flat count [] whole = refl
@@ -114,5 +115,5 @@ module _ (first count : ℕ) (cs : List Change) (image : Option (List ℕ)) (beg
   commit_done last is = record {
     has = λ y told.
         let ends = done first count cs y (begins y told) in
-        (written 4096 (0 ∷ []) (put_image first cs (written 4096 (1 ∷ []) (written (first + 4096 * count) (body_bytes cs) y))), is y told, record { long = ends.0.long; closed = ends.0.closed }, ends.1);
+        (written 4096 (0 ∷ []) (put_image first cs (written 4096 (1 ∷ []) (written (first + 4096 * count) (body_bytes cs) y))), is y told, ends.0, ends.1);
   }

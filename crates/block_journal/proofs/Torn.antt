@@ -1,24 +1,19 @@
 -- What a stop leaves in each step of a commit: the blocks before it, or the blocks with the changes made.
-use Rattle.std.proofs.Common.{◌≡◌, ◌≢◌, ◌⊎◌, inl, inr, ⊎_elim, ℕ, zero, suc, ◌+◌, ◌-◌, ◌*◌, ◌^◌, ◌<◌, ◌≤◌, Bool, true, false, cond, ◌==◌, List, [], ◌∷◌, ◌++◌, length, get_or, refl, sym, ◌∙◌, ap, subst, arith, length-append}
+use Rattle.std.proofs.Common.{◌≡◌, ◌⊎◌, inl, inr, ⊎_elim, ℕ, ◌+◌, ◌*◌, ◌^◌, ◌<◌, ◌≤◌, false, ◌==◌, List, [], ◌∷◌, ◌++◌, length, get_or, refl, sym, ◌∙◌, ap, arith, length-append}
 use Rattle.std.specs.List.{flat_map}
 use Rattle.std.specs.Int.{w32, from_be_bytes, to_be_bytes}
 use Rattle.std.proofs.lemmas.List.{get_or_append_left, get_or-append-add}
 use Rattle.std.proofs.lemmas.Nat.{from_be_bytes-to_be_bytes_4}
-use Rattle.std.proofs.lemmas.Bool.{cases_Bool, cases_lt}
+use Rattle.std.proofs.lemmas.Bool.{cases_Bool}
 use Rattle.hal_base.specs.Disk.{written, Torn}
 use Rattle.block_journal.specs.declared.change.Change.{Change}
-use Rattle.block_journal.specs.Redo.{number_at, bytes_at, blocks_at, changes_at, put_all, put_image, journal_start, is_open, journal_of, redone, change_bytes, body_bytes}
-use Rattle.block_journal.proofs.Images.{SameFrom, SameOutside, HoldsAt, bytes_at-is, bytes_at-same, torn_outside, written_inside, written_outside, length-written, length-written_le}
+use Rattle.block_journal.specs.Redo.{number_at, blocks_at, changes_at, put_all, put_image, is_open, journal_of, redone, change_bytes, body_bytes}
+use Rattle.block_journal.proofs.Images.{SameOutside, bytes_at-is, torn_outside, written_inside, written_outside, length-written, length-written_le}
 use Rattle.block_journal.specs.Placing.{AreWhole, SameBut}
-use Rattle.block_journal.proofs.Changes.{blocks_at-ext, put_all-same, put_all-twice, outside_below, outside_above, blocks_at-put_image, put_image-outside, length-put_image, changes_at-is}
-
-pub redone_closed : (first count : ℕ) (x : List ℕ) → is_open x ≡ false → redone first count x ≡ blocks_at first count x
-unfolding redone
-redone_closed first count x closed = ap (λ (b : Bool). cond b (put_all (journal_of first count x) (blocks_at first count x)) (blocks_at first count x)) closed
-
-pub redone_open : (first count : ℕ) (x : List ℕ) → is_open x ≡ true → redone first count x ≡ put_all (journal_of first count x) (blocks_at first count x)
-unfolding redone
-redone_open first count x opened = ap (λ (b : Bool). cond b (put_all (journal_of first count x) (blocks_at first count x)) (blocks_at first count x)) opened
+use Rattle.block_journal.specs.Commit.{IsSettled}
+use Rattle.block_journal.specs.Redoing.{IsToRedo}
+use Rattle.block_journal.proofs.Changes.{blocks_at-ext, changes_at-is}
+use Rattle.block_journal.proofs.Redoing.{redone_closed, redone_open, redone_changes, placing_keeps, closing_keeps, redo_settled}
 
 gate_same : (x y : List ℕ) → get_or x 4096 0 ≡ get_or y 4096 0 → is_open x ≡ is_open y
 gate_same x y same = ap (λ (b : ℕ). b == 1) same
@@ -96,10 +91,6 @@ module _ (first count : ℕ) (cs : List Change) (x : List ℕ) (b : Begins first
           ∙ in_body (8 + i) (omega (arith, body_length, lt))
           ∙ get_or-append-add (to_be_bytes w32 (length cs) ++ to_be_bytes w32 1) (flat_map change_bytes cs) i 0
 
-  -- with an open gate the changes are made once more, where they are made too
-  redone_changes : (y : List ℕ) → is_open y ≡ true → journal_of first count y ≡ cs → redone first count y ≡ put_all cs (blocks_at first count y)
-  redone_changes y opened journal = redone_open first count y opened ∙ ap (λ (l : List Change). put_all l (blocks_at first count y)) journal
-
   in_blocks : (i : ℕ) → first ≤ i → i < first + 4096 * count → get_or (written (first + 4096 * count) (body_bytes cs) x) i 0 ≡ get_or x i 0
   in_blocks i low high = staged_outside.byte i (inl high)
 
@@ -108,7 +99,7 @@ module _ (first count : ℕ) (cs : List Change) (x : List ℕ) (b : Begins first
 
   -- the gate is being opened
   pub gate_torn : (y : List ℕ) → Torn 4096 1 (written (first + 4096 * count) (body_bytes cs) x) y → (redone first count y ≡ blocks_at first count x) ⊎ (redone first count y ≡ put_all cs (blocks_at first count x))
-  gate_torn y torn = ⊎_elim (λ opened. inr (redone_changes y opened journal ∙ ap (λ (l : List (List ℕ)). put_all cs l) blocks_same)) (λ closed. inl (redone_closed first count y closed ∙ blocks_same)) (cases_Bool (is_open y))
+  gate_torn y torn = ⊎_elim (λ opened. inr (redone_open first count y opened ∙ (λ i. put_all (journal i) (blocks_same i)))) (λ closed. inl (redone_closed first count y closed ∙ blocks_same)) (cases_Bool (is_open y))
     where
       same : SameOutside 4096 1 y (written (first + 4096 * count) (body_bytes cs) x)
       same = torn_outside 4096 1 (written (first + 4096 * count) (body_bytes cs) x) y staged_long torn
@@ -132,52 +123,27 @@ module _ (first count : ℕ) (cs : List Change) (x : List ℕ) (b : Begins first
   opened_blocks : blocks_at first count (written 4096 (1 ∷ []) (written (first + 4096 * count) (body_bytes cs) x)) ≡ blocks_at first count x
   opened_blocks = blocks_at-ext first count (written 4096 (1 ∷ []) (written (first + 4096 * count) (body_bytes cs) x)) x (record { byte = λ i low high. opened_outside.byte i (inr (omega (arith, low, b.behind))) ∙ in_blocks i low high })
 
-  journal_behind : (y : List ℕ) → SameBut first cs y (written 4096 (1 ∷ []) (written (first + 4096 * count) (body_bytes cs) x)) → journal_of first count y ≡ cs
-  journal_behind y same = journal_is y (λ i le. same.byte i (outside_above first count cs i b.whole le) ∙ opened_outside.byte i (inr (omega (arith, le, b.behind))))
+  -- from here on it is an open journal
+  to_redo : IsToRedo first count cs (written 4096 (1 ∷ []) (written (first + 4096 * count) (body_bytes cs) x))
+  to_redo = record {
+    long = long_opened;
+    opened = ap (λ (b : ℕ). b == 1) (written_inside 4096 (1 ∷ []) (written (first + 4096 * count) (body_bytes cs) x) 0 staged_long (omega arith));
+    journal = sym (journal_is (written 4096 (1 ∷ []) (written (first + 4096 * count) (body_bytes cs) x)) (λ i le. opened_outside.byte i (inr (omega (arith, le, b.behind)))));
+  }
+
+  redone_opened : redone first count (written 4096 (1 ∷ []) (written (first + 4096 * count) (body_bytes cs) x)) ≡ put_all cs (blocks_at first count x)
+  redone_opened = redone_changes first count cs (written 4096 (1 ∷ []) (written (first + 4096 * count) (body_bytes cs) x)) b.behind b.whole to_redo ∙ ap (λ (l : List (List ℕ)). put_all cs l) opened_blocks
 
   -- the blocks are being written to their places
   pub blocks_torn : (y : List ℕ) → SameBut first cs y (written 4096 (1 ∷ []) (written (first + 4096 * count) (body_bytes cs) x)) → redone first count y ≡ put_all cs (blocks_at first count x)
-  blocks_torn y same =
-      let gate : get_or (written 4096 (1 ∷ []) (written (first + 4096 * count) (body_bytes cs) x)) 4096 0 ≡ 1 = written_inside 4096 (1 ∷ []) (written (first + 4096 * count) (body_bytes cs) x) 0 staged_long (omega arith) in
-      let is_one : is_open y ≡ true = ap (λ (b : ℕ). b == 1) (same.byte 4096 (outside_below first cs 4096 (omega (arith, b.behind))) ∙ gate) in
-      redone_changes y is_one (journal_behind y same) ∙ put_all-same first count cs y (written 4096 (1 ∷ []) (written (first + 4096 * count) (body_bytes cs) x)) same ∙ ap (λ (l : List (List ℕ)). put_all cs l) opened_blocks
-
-  -- the image with the blocks in their places
-  abbrev placed : List ℕ
-  placed = put_image first cs (written 4096 (1 ∷ []) (written (first + 4096 * count) (body_bytes cs) x))
-
-  pub long_placed : first + 4096 * count ≤ length (put_image first cs (written 4096 (1 ∷ []) (written (first + 4096 * count) (body_bytes cs) x)))
-  long_placed = omega (arith, long_opened, length-put_image first count cs (written 4096 (1 ∷ []) (written (first + 4096 * count) (body_bytes cs) x)) b.whole long_opened)
-
-  placed_blocks : blocks_at first count (put_image first cs (written 4096 (1 ∷ []) (written (first + 4096 * count) (body_bytes cs) x))) ≡ put_all cs (blocks_at first count x)
-  placed_blocks = blocks_at-put_image first count cs (written 4096 (1 ∷ []) (written (first + 4096 * count) (body_bytes cs) x)) b.whole long_opened ∙ ap (λ (l : List (List ℕ)). put_all cs l) opened_blocks
+  blocks_torn y same = placing_keeps first count cs (written 4096 (1 ∷ []) (written (first + 4096 * count) (body_bytes cs) x)) b.behind b.whole to_redo y same ∙ redone_opened
 
   -- the gate is being closed
   pub closing_torn : (y : List ℕ) → Torn 4096 1 (put_image first cs (written 4096 (1 ∷ []) (written (first + 4096 * count) (body_bytes cs) x))) y → redone first count y ≡ put_all cs (blocks_at first count x)
-  closing_torn y torn = ⊎_elim (λ is_one. redone_changes y is_one journal ∙ ap (λ (l : List (List ℕ)). put_all cs l) blocks_same ∙ put_all-twice cs (blocks_at first count x)) (λ closed. redone_closed first count y closed ∙ blocks_same) (cases_Bool (is_open y))
-    where
-      z : List ℕ
-      z = put_image first cs (written 4096 (1 ∷ []) (written (first + 4096 * count) (body_bytes cs) x))
-
-      same : SameOutside 4096 1 y (put_image first cs (written 4096 (1 ∷ []) (written (first + 4096 * count) (body_bytes cs) x)))
-      same = torn_outside 4096 1 (put_image first cs (written 4096 (1 ∷ []) (written (first + 4096 * count) (body_bytes cs) x))) y (omega (arith, long_placed, b.behind)) torn
-
-      outside : SameBut first cs (put_image first cs (written 4096 (1 ∷ []) (written (first + 4096 * count) (body_bytes cs) x))) (written 4096 (1 ∷ []) (written (first + 4096 * count) (body_bytes cs) x))
-      outside = put_image-outside first count cs (written 4096 (1 ∷ []) (written (first + 4096 * count) (body_bytes cs) x)) b.whole long_opened
-
-      journal : journal_of first count y ≡ cs
-      journal = journal_is y (λ i le. same.byte i (inr (omega (arith, le, b.behind))) ∙ outside.byte i (outside_above first count cs i b.whole le) ∙ opened_outside.byte i (inr (omega (arith, le, b.behind))))
-
-      blocks_same : blocks_at first count y ≡ put_all cs (blocks_at first count x)
-      blocks_same = blocks_at-ext first count y (put_image first cs (written 4096 (1 ∷ []) (written (first + 4096 * count) (body_bytes cs) x))) (record { byte = λ i low high. same.byte i (inr (omega (arith, low, b.behind))) }) ∙ placed_blocks
+  closing_torn y torn = closing_keeps first count cs (written 4096 (1 ∷ []) (written (first + 4096 * count) (body_bytes cs) x)) b.behind b.whole to_redo y torn ∙ redone_opened
 
   -- the commit is done
-  pub done : Begins first count [] (written 4096 (0 ∷ []) (put_image first cs (written 4096 (1 ∷ []) (written (first + 4096 * count) (body_bytes cs) x)))) × (blocks_at first count (written 4096 (0 ∷ []) (put_image first cs (written 4096 (1 ∷ []) (written (first + 4096 * count) (body_bytes cs) x)))) ≡ put_all cs (blocks_at first count x))
+  pub done : IsSettled first count (written 4096 (0 ∷ []) (put_image first cs (written 4096 (1 ∷ []) (written (first + 4096 * count) (body_bytes cs) x)))) × (blocks_at first count (written 4096 (0 ∷ []) (put_image first cs (written 4096 (1 ∷ []) (written (first + 4096 * count) (body_bytes cs) x)))) ≡ put_all cs (blocks_at first count x))
   done =
-      let z : List ℕ = put_image first cs (written 4096 (1 ∷ []) (written (first + 4096 * count) (body_bytes cs) x)) in
-      let within : 4096 ≤ length z = omega (arith, long_placed, b.behind) in
-      let gate : get_or (written 4096 (0 ∷ []) z) 4096 0 ≡ 0 = written_inside 4096 (0 ∷ []) z 0 within (omega arith) in
-      let outside = written_outside 4096 (0 ∷ []) z within in (
-        record { behind = b.behind; whole = tt; few = omega arith; small = b.small; long = omega (arith, long_placed, b.behind, length-written 4096 (0 ∷ []) z (omega (arith, long_placed, b.behind))); closed = ap (λ (b : ℕ). b == 1) gate },
-        blocks_at-ext first count (written 4096 (0 ∷ []) z) z (record { byte = λ i low high. outside.byte i (inr (omega (arith, low, b.behind))) }) ∙ placed_blocks,
-      )
+      let ends = redo_settled first count cs (written 4096 (1 ∷ []) (written (first + 4096 * count) (body_bytes cs) x)) b.behind b.whole to_redo in
+      (ends.0, ends.1 ∙ redone_opened)

@@ -1,5 +1,5 @@
 -- What a run of device calls does to a site, beside what it writes.
-use Rattle.std.specs.Prelude.{◌≡◌, ℕ, ◌≤◌, List, Option, None, Some}
+use Rattle.std.specs.Prelude.{◌≡◌, ℕ, List, Option, None, Some}
 
 -- what was told stays told, and what wasn't stays untold
 pub record SameTold (old new : Option (List ℕ)) : Type 0 where

@@ -1,8 +1,10 @@
+pub mod Body
 pub mod Commit
 pub mod Device
-pub mod Opened
 pub mod Opening
 pub mod Placing
+pub mod Reads
 pub mod Redo
+pub mod Redoing
 pub mod Staged
 pub mod Stands

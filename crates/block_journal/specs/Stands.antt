@@ -1,5 +1,5 @@
 -- What a live journal knows of its site, and what it tells of the blocks.
-use Rattle.std.specs.Prelude.{◌≡◌, ℕ, Bool, nat_le, if◌then◌else◌, List, Option, None, Some}
+use Rattle.std.specs.Prelude.{◌≡◌, ℕ, nat_le, if◌then◌else◌, List, Option, None, Some}
 use Rattle.block_journal.specs.Commit.{IsSettled}
 use Rattle.block_journal.specs.Device.{IsExact}
 use Rattle.block_journal.specs.Redo.{blocks_at}

@@ -1,14 +1,19 @@
 // The journal: the blocks of the last commit, and the changes that are staged.
-ghost use Rattle.std.specs.Prelude.{◌≡◌, ◌≤◌, ◌^◌, ◌<◌, ◌%◌, All, length, IsTrue, IfOk, IfErr, MatchResult};
+ghost use Rattle.std.specs.Prelude.{◌≡◌, ◌≤◌, ◌^◌, ◌<◌, ◌%◌, All, ℕ, length, IsTrue, IfOk, IfErr, OnOk, MatchResult};
+ghost use Rattle.std.specs.Option.{option_map};
 ghost use Rattle.std.specs.Io.KnownBytes.{Appends};
 ghost use Rattle.hal_base.specs.Fault.{Rose};
-ghost use Rattle.hal_base.specs.Stops.{Read};
+ghost use Rattle.hal_base.specs.Room.{HasRoom};
+ghost use Rattle.hal_base.specs.Stops.{LeavesOnly, LeavesExactly, Read};
 ghost use Rattle.block_journal.specs.Commit.{last_byte};
 ghost use Rattle.block_journal.specs.Redo.{are_changes, put_all, redone};
+ghost use Rattle.block_journal.specs.Device.{SameTold};
+ghost use Rattle.block_journal.specs.Redoing.{IsRedone, SameRedo, OpeningLeaves, IsDamaged, IsSound};
 ghost use Rattle.block_journal.specs.Stands.{Stands, told_where, say_room};
 
 use crate::Change;
-use crate::open::{OpenFault, OpenWhy, load};
+use crate::fault::{OpenFault, OpenWhy};
+use crate::open::load;
 use crate::protocol::commit_changes;
 use crate::staged::{copy_block, make_body, make_changes, put_change};
 use hal_base::{BLOCK, Blocks, Failed, JournalFault, Live, Site, StageFault, Store};
@@ -34,10 +39,8 @@ pub struct Journal<T: Site> {
 }
 
 impl<T: Site> Journal<T> {
-    ghost use Rattle.block_journal.specs.Opened.{IsOpened};
-
-    /// Opens the blocks of a site: `count` of them, the first at the byte `first`. It begins with a sync, and an
-    /// image that ends before its last block is filled up with zeros.
+    /// Opens the blocks of a site: `count` of them, the first at the byte `first`. It begins with a sync. An open
+    /// journal is redone; an image with a closed gate that ends before its last block is filled up with zeros.
     pub fn open(
         alloc: Global,
         mut site: T,
@@ -47,11 +50,24 @@ impl<T: Site> Journal<T> {
         requires multiple { first % 4096 ≡ 0 }
         requires behind { 8192 ≤ first }
         requires near { first ≤ 2 ^ 30 }
-        ensures opened { IfOk result (λ journal. IsOpened first count (T.image site) (T.image journal.site) journal.kept.items journal.staged.items journal.count journal.live) }
-        ensures said { MatchResult result (λ journal. T.said journal.site ≡ T.said site) (λ fault. T.said fault.site ≡ T.said site) }
-        ensures say_faults { MatchResult result (λ journal. T.say_faults journal.site ≡ T.say_faults site) (λ fault. T.say_faults fault.site ≡ T.say_faults site) }
-        ensures later { MatchResult result (λ journal. T.disk_faults site ≤ T.disk_faults journal.site) (λ fault. T.disk_faults site ≤ T.disk_faults fault.site) }
+        ensures committed { IfOk result (λ journal. ⟦<Journal<T> as Blocks>⟧.committed journal ≡ option_map (redone first count) (T.image site)) }
+        ensures list { IfOk result (λ journal. ⟦<Journal<T> as Blocks>⟧.list journal ≡ option_map (redone first count) (T.image site)) }
+        ensures place { IfOk result (λ journal. (journal.first ≡ first) × (⟦<Journal<T> as Blocks>⟧.number journal ≡ count)) }
+        ensures live { IfOk result (λ journal. IsTrue (⟦<Journal<T> as Live>⟧.live journal)) }
+        ensures fetches { IfOk result (λ journal. ⟦<Journal<T> as Blocks>⟧.fetches journal ≡ 0) }
+        ensures exactly { IfOk result (λ journal. LeavesExactly (⟦<Journal<T> as Blocks>⟧.moment journal) (⟦<Journal<T> as Blocks>⟧.left_at journal) (⟦<Journal<T> as Blocks>⟧.committed journal) (⟦<Journal<T> as Blocks>⟧.said journal)) }
+        ensures redone { IfOk result (λ journal. IsRedone first count (T.image site) (T.image journal.site)) }
+        ensures sound { OnOk result (IsSound first count (T.image site)) }
+        ensures volume { IfErr result (λ fault. fault.why ≡ OpenWhy.NotAVolume → ⊥) }
+        ensures damaged { IfErr result (λ fault. (rule : ℕ) → fault.why ≡ OpenWhy.Damaged rule → (rule ≡ 1) × (T.image fault.site ≡ T.image site) × IsDamaged first count (T.image site)) }
         ensures cause { IfErr result (λ fault. fault.why ≡ OpenWhy.DiskFault → Rose (T.disk_faults site) (T.disk_faults fault.site)) }
+        ensures memory { IfErr result (λ fault. fault.why ≡ OpenWhy.Memory → SameRedo first count (T.image site) (T.image fault.site)) }
+        ensures told { MatchResult result (λ journal. SameTold (T.image site) (T.image journal.site)) (λ fault. SameTold (T.image site) (T.image fault.site)) }
+        ensures said { MatchResult result (λ journal. T.said journal.site ≡ T.said site) (λ fault. T.said fault.site ≡ T.said site) }
+        ensures stops { MatchResult result (λ journal. LeavesOnly (T.moment site) (T.moment journal.site) (T.left_at site) (T.left_at journal.site) (OpeningLeaves (T.left_at site (T.moment site)) (T.image site) first count)) (λ fault. LeavesOnly (T.moment site) (T.moment fault.site) (T.left_at site) (T.left_at fault.site) (OpeningLeaves (T.left_at site (T.moment site)) (T.image site) first count)) }
+        ensures later { MatchResult result (λ journal. T.disk_faults site ≤ T.disk_faults journal.site) (λ fault. T.disk_faults site ≤ T.disk_faults fault.site) }
+        ensures say_faults { MatchResult result (λ journal. T.say_faults journal.site ≡ T.say_faults site) (λ fault. T.say_faults fault.site ≡ T.say_faults site) }
+        ensures room { MatchResult result (λ journal. HasRoom (T.room site) (T.room journal.site) (T.disk_faults site) (T.disk_faults journal.site) (λ room. last_byte first count ≤ room.0)) (λ fault. HasRoom (T.room site) (T.room fault.site) (T.disk_faults site) (T.disk_faults fault.site) (λ room. last_byte first count ≤ room.0)) }
     {
         match load(alloc, &mut site, first, count) {
             Ok(kept) => Ok(Journal {
@@ -63,7 +79,10 @@ impl<T: Site> Journal<T> {
                 fetches: 0,
                 live: true,
             }),
-            Err(why) => Err(OpenFault { why, site }),
+            Err(fault) => Err(OpenFault {
+                why: fault.why(),
+                site,
+            }),
         }
     }
 

@@ -1,6 +1,6 @@
 // The block journal over sites in memory.
-use block_journal::Journal;
-use hal_base::{BLOCK, Blocks, Bytes, List, Live, Store};
+use block_journal::{Journal, OpenWhy};
+use hal_base::{BLOCK, Blocks, Bytes, List, Live, Memory, Store};
 use hal_disk::{MemSite, SureSite};
 use std::alloc::{AllocError, Global};
 use std::test::Fail;
@@ -31,6 +31,58 @@ fn zeros(alloc: Global) -> Result<Bytes, AllocError> {
     Ok(Bytes::from_vec(vec![in alloc; 0; BODY]?))
 }
 
+// An image of three blocks of zeros with this gate, and what stands behind the blocks.
+fn image_of(alloc: Global, gate: u8, behind: &[u8]) -> Result<Bytes, AllocError> {
+    let mut image = vec![in alloc; 0; BODY]?;
+    image[4096] = gate;
+    image.extend_from_slice(behind)?;
+    Ok(Bytes::from_vec(image))
+}
+
+// A body that begins with these two numbers, and has a block of eights for each of the others.
+fn body_of(alloc: Global, count: u32, one: u32, numbers: &[u32]) -> Result<Vec<u8>, AllocError> {
+    let mut body = Vec::new(alloc);
+    body.extend_from_slice(&count.to_be_bytes())?;
+    body.extend_from_slice(&one.to_be_bytes())?;
+    for number in numbers {
+        body.extend_from_slice(&number.to_be_bytes())?;
+        body.extend_from_slice(&[8; BLOCK])?;
+    }
+    Ok(body)
+}
+
+// The site after an opening of the image, whose gate is closed then.
+fn opened(alloc: Global, image: Bytes) -> Result<MemSite, Fail> {
+    let site = MemSite::new(alloc, image, List::new(alloc));
+    let journal = Journal::open(alloc, site, FIRST, 3).ok().ok_or("opened")?;
+    let site = journal.close();
+    if byte(site.image(), 4096) == 1 {
+        return Err("an open gate".into());
+    }
+    Ok(site)
+}
+
+// The first byte of block 0 and the last one of block 2.
+fn ends(site: &MemSite) -> (u8, u8) {
+    (
+        byte(site.image(), 8192),
+        byte(site.image(), 8192 + 2 * 4096 + 4095),
+    )
+}
+
+// Whether each stop within an opening, and an opening after it, gives the same blocks.
+fn opens_alike(alloc: Global, site: &MemSite) -> Result<bool, Fail> {
+    for moment in 0..=site.calls() {
+        for (kept, torn) in [(true, 0), (false, 1), (false, 255)] {
+            let image = site.stopped(moment, kept, torn)?;
+            if ends(&opened(alloc, image)?) != ends(site) {
+                return Ok(false);
+            }
+        }
+    }
+    Ok(true)
+}
+
 #[test]
 fn a_stop_leaves_both_old_blocks_or_both_new_ones(rt: HostRuntime) -> Result<(), Fail> {
     let alloc = rt.alloc();
@@ -56,7 +108,119 @@ fn a_stop_leaves_both_old_blocks_or_both_new_ones(rt: HostRuntime) -> Result<(),
             let new = first == 7 && last == 9;
             assert!(rt; old || new, "{moment} {kept} {torn}: {first} {last}");
             assert!(rt; new || moment < sure, "{moment} {kept} {torn}");
+            let again = opened(alloc, image)?;
+            assert_eq!(rt; ends(&again), (first, last), "{moment} {kept} {torn}");
+            assert!(rt; opens_alike(alloc, &again)?, "{moment} {kept} {torn}");
         }
+    }
+    Ok(())
+}
+
+#[test]
+fn an_opening_redoes_an_open_journal(rt: HostRuntime) -> Result<(), Fail> {
+    let alloc = rt.alloc();
+    let body = body_of(alloc, 2, 1, &[0, 2])?;
+    let site = SureSite::new(alloc, image_of(alloc, 1, &body)?);
+    let mut journal = Journal::open(alloc, site, FIRST, 3).ok().ok_or("opened")?;
+    for (number, value) in [(0, 8), (1, 0), (2, 8)] {
+        let mut block = [1; BLOCK];
+        assert!(rt; journal.is_live() && number < journal.count());
+        journal.fetch(number, &mut block).ok().ok_or("fetched")?;
+        assert_eq!(rt; block[0], value, "{number}");
+    }
+    let site = journal.close();
+    assert_eq!(rt; byte(site.image(), 4096), 0);
+    assert_eq!(rt; byte(site.image(), 8192), 8);
+    Ok(())
+}
+
+// Whether the image is refused as damaged, and left as it was.
+fn is_damaged(alloc: Global, image: &Bytes) -> Result<bool, Memory> {
+    let site = MemSite::new(alloc, image.copy()?, List::new(alloc));
+    match Journal::open(alloc, site, FIRST, 3) {
+        Ok(_) => Ok(false),
+        Err(fault) => {
+            Ok(fault.why == OpenWhy::Damaged(1) && fault.site.image() == image.as_slice())
+        }
+    }
+}
+
+#[test]
+fn a_body_that_breaks_its_layout_is_damaged(rt: HostRuntime) -> Result<(), Fail> {
+    let alloc = rt.alloc();
+    let bodies: [(u32, u32, &[u32]); 10] = [
+        (0, 1, &[]),
+        (0, 1, &[0]),
+        (u32::MAX, 1, &[0, 1, 2]),
+        (4, 1, &[0, 1, 2, 3]),
+        (1, 0, &[0]),
+        (1, 2, &[0]),
+        (1, 1, &[3]),
+        (1, 1, &[u32::MAX]),
+        (2, 1, &[1, 1]),
+        (2, 1, &[2, 0]),
+    ];
+    for (count, one, numbers) in bodies {
+        let image = image_of(alloc, 1, &body_of(alloc, count, one, numbers)?)?;
+        assert!(rt; is_damaged(alloc, &image)?, "{count} {one}");
+    }
+    let whole: [&[u32]; 3] = [&[2], &[0, 2], &[0, 1, 2]];
+    for numbers in whole {
+        let image = image_of(alloc, 1, &body_of(alloc, numbers.len() as u32, 1, numbers)?)?;
+        opened(alloc, image)?;
+    }
+    Ok(())
+}
+
+#[test]
+fn a_body_that_is_cut_short_is_damaged(rt: HostRuntime) -> Result<(), Fail> {
+    let alloc = rt.alloc();
+    let body = body_of(alloc, 2, 1, &[0, 2])?;
+    for cut in 0..body.len() {
+        if cut < 20 || cut % 67 == 0 || body.len() - cut < 20 {
+            let image = image_of(alloc, 1, &body[..cut])?;
+            assert!(rt; is_damaged(alloc, &image)?, "{cut}");
+        }
+    }
+    for length in [4097, 8192, 8193, BODY - 1] {
+        let image = image_of(alloc, 1, &[])?;
+        let short = Bytes::from_slice(alloc, &image.as_slice()[..length.min(image.len())])?;
+        assert!(rt; is_damaged(alloc, &short)?, "{length}");
+    }
+    Ok(())
+}
+
+#[test]
+fn every_other_gate_is_closed(rt: HostRuntime) -> Result<(), Fail> {
+    let alloc = rt.alloc();
+    let body = body_of(alloc, 1, 1, &[0])?;
+    for gate in [0, 2, 255] {
+        let site = opened(alloc, image_of(alloc, gate, &body)?)?;
+        assert_eq!(rt; ends(&site), (0, 0), "{gate}");
+        assert_eq!(rt; byte(site.image(), 4096), gate);
+    }
+    for length in [0, 100, 4096, 4097, 8192, BODY - 1] {
+        let site = opened(alloc, Bytes::from_vec(vec![in alloc; 0; length]?))?;
+        assert_eq!(rt; site.image().len(), BODY, "{length}");
+        assert_eq!(rt; ends(&site), (0, 0), "{length}");
+    }
+    Ok(())
+}
+
+#[test]
+fn a_fault_within_an_opening_keeps_the_journal(rt: HostRuntime) -> Result<(), Fail> {
+    let alloc = rt.alloc();
+    let body = body_of(alloc, 2, 1, &[0, 2])?;
+    for failing in 1..17 {
+        let mut calls = List::new(alloc);
+        calls.push(failing)?;
+        let site = MemSite::new(alloc, image_of(alloc, 1, &body)?, calls);
+        let Err(fault) = Journal::open(alloc, site, FIRST, 3) else {
+            return Err("a fault that isn't told".into());
+        };
+        assert!(rt; fault.why == OpenWhy::DiskFault, "{failing}");
+        let image = fault.site.stopped(fault.site.calls(), false, 255)?;
+        assert_eq!(rt; ends(&opened(alloc, image)?), (8, 8), "{failing}");
     }
     Ok(())
 }

@@ -1,4 +1,4 @@
-use Rattle.std.proofs.Common.{◌≡◌, length, refl}
+use Rattle.std.proofs.Common.{length}
 use Rattle.hal_base.proofs.StopLemmas.{leaves-weaken}
 use Rattle.block_journal.proofs.Placing.{placed_one}
 use Rattle.block_journal.proofs.device.write_block.Goals as goal

@@ -1,9 +1,8 @@
-use Rattle.std.proofs.Common.{◌≡◌, ◌∙◌, arith, rules, refl, get_or, take, []}
-use Rattle.hal_base.proofs.StopLemmas.{not_yet, leaves-stay}
-use Rattle.block_journal.specs.Placing.{PlacedFrom}
+use Rattle.std.proofs.Common.{◌∙◌, arith, refl, []}
+use Rattle.hal_base.proofs.StopLemmas.{not_yet}
 use Rattle.block_journal.specs.declared.change.Change.{Change}
 use Rattle.block_journal.proofs.Calls.{told-same, told-then, room-same, room-then}
-use Rattle.block_journal.proofs.Placing.{image_none, image_more, placed_next, placed_none, whole_one}
+use Rattle.block_journal.proofs.Placing.{image_none, image_more, placed_next, whole_one}
 use Rattle.block_journal.proofs.device.write_blocks.Goals as goal
 
 abbrev none : Change

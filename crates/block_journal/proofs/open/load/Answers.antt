@@ -1,18 +1,29 @@
-use Rattle.std.proofs.Common.{◌≡◌, ◌∙◌, List, ℕ, Some}
-use Rattle.block_journal.proofs.Reading.{ok_of}
-use Rattle.block_journal.proofs.Standing.{load_stands, load_blocks, if_ok_value}
-use Rattle.block_journal.specs.Opening.{ReadsBlocks}
+use Rattle.hal_base.proofs.StopLemmas.{leaves-weaken, leaves-stay}
+use Rattle.block_journal.proofs.Calls.{exact-synced, exact-stays, if_ok}
+use Rattle.block_journal.proofs.OpeningSteps.{opening_before, opening_redo, then_redo, redone_between, same_redone, load_stands}
 use Rattle.block_journal.proofs.open.load.Goals as goal
 
-pub returns-in-Ok-false-clause-stands : goal.returns-in-Ok-false-clause-stands
-returns-in-Ok-false-clause-stands g c =
-    let ready = ok_of c.make_ready.result c.is_err.result c.make_ready.ensures.ready c.is_err.ensures.negation c.if-is_err.false in
-    let exact = ok_of c.make_ready.result c.is_err.result c.make_ready.ensures.exact c.is_err.ensures.negation c.if-is_err.false in
-    if_ok_value c.read_blocks.result c.read_blocks.ensures.blocks (λ kept reads.
-    load_stands c.args.first c.args.count kept.items (g.T.Site.image c.args.site.now) (g.T.Site.image c.make_ready.new.site) (g.T.Site.image c.read_gate.new.site) (g.T.Site.image c.read_blocks.new.site) c.in-Ok-false.field-0 (g.T.Site.moment c.make_ready.new.site) (g.T.Site.moment c.read_gate.new.site) (g.T.Site.moment c.read_blocks.new.site) (g.T.Site.left_at c.make_ready.new.site) (g.T.Site.left_at c.read_gate.new.site) (g.T.Site.left_at c.read_blocks.new.site) c.requires.behind ready exact c.read_gate.ensures.image c.read_blocks.ensures.image
-    (λ z told long. c.in-Ok-false.ensures.gate z told long) c.in-Ok-false.field-0-test reads c.read_gate.ensures.stops c.read_blocks.ensures.stops)
+pub returns-in_err-sync-clause-stops : goal.returns-in_err-sync-clause-stops
+returns-in_err-sync-clause-stops g c = leaves-weaken c.sync.ensures.stops (opening_before (g.T.Site.left_at c.args.site.now (g.T.Site.moment c.args.site.now)) (g.T.Site.image c.args.site.now) c.args.first c.args.count)
 
-pub returns-in-Ok-false-clause-blocks : goal.returns-in-Ok-false-clause-blocks
-returns-in-Ok-false-clause-blocks g c =
-    let ready = ok_of c.make_ready.result c.is_err.result c.make_ready.ensures.ready c.is_err.ensures.negation c.if-is_err.false in
-    if_ok_value c.read_blocks.result c.read_blocks.ensures.blocks (λ kept reads. load_blocks c.args.first c.args.count kept.items (g.T.Site.image c.args.site.now) (g.T.Site.image c.make_ready.new.site) (g.T.Site.image c.read_gate.new.site) ready c.make_ready.ensures.told c.read_gate.ensures.image reads)
+pub settle-requires-clause-exact : goal.settle-requires-clause-exact
+settle-requires-clause-exact g c = exact-synced c.sync.ensures.image c.in_ok-sync.ensures.durable
+
+pub returns-in_err-settle-clause-stops : goal.returns-in_err-settle-clause-stops
+returns-in_err-settle-clause-stops g c = then_redo (g.T.Site.image c.args.site.now) (g.T.Site.image c.sync.new.self) c.args.first c.args.count c.sync.ensures.image (opening_before (g.T.Site.left_at c.args.site.now (g.T.Site.moment c.args.site.now)) (g.T.Site.image c.args.site.now) c.args.first c.args.count) (opening_redo (g.T.Site.left_at c.args.site.now (g.T.Site.moment c.args.site.now)) (g.T.Site.image c.args.site.now) c.args.first c.args.count) c.sync.ensures.stops c.settle.ensures.stops
+
+pub returns-clause-redone : goal.returns-clause-redone
+returns-clause-redone g c = if_ok c.read_blocks.result c.read_blocks.ensures.blocks (λ kept reads. redone_between c.sync.ensures.image c.read_blocks.ensures.image c.in_ok-settle.ensures.done)
+
+pub returns-clause-stands : goal.returns-clause-stands
+returns-clause-stands g c = if_ok c.read_blocks.result c.read_blocks.ensures.blocks (λ kept reads. load_stands c.args.first c.args.count kept.items (g.T.Site.image c.sync.new.self) (g.T.Site.image c.settle.new.site) (g.T.Site.image c.read_blocks.new.site) (g.T.Site.left_at c.read_blocks.new.site (g.T.Site.moment c.read_blocks.new.site)) c.settle.ensures.told c.in_ok-settle.ensures.done c.read_blocks.ensures.image reads
+    (exact-stays c.read_blocks.ensures.image c.in_ok-settle.ensures.exact c.read_blocks.ensures.stops))
+
+pub returns-clause-damaged : goal.returns-clause-damaged
+returns-clause-damaged g c = λ is. absurd (c.read_blocks.ensures.damaged is)
+
+pub returns-clause-memory : goal.returns-clause-memory
+returns-clause-memory g c = λ is. same_redone (redone_between c.sync.ensures.image c.read_blocks.ensures.image c.in_ok-settle.ensures.done)
+
+pub returns-clause-stops : goal.returns-clause-stops
+returns-clause-stops g c = leaves-stay (then_redo (g.T.Site.image c.args.site.now) (g.T.Site.image c.sync.new.self) c.args.first c.args.count c.sync.ensures.image (opening_before (g.T.Site.left_at c.args.site.now (g.T.Site.moment c.args.site.now)) (g.T.Site.image c.args.site.now) c.args.first c.args.count) (opening_redo (g.T.Site.left_at c.args.site.now (g.T.Site.moment c.args.site.now)) (g.T.Site.image c.args.site.now) c.args.first c.args.count) c.sync.ensures.stops c.settle.ensures.stops) c.read_blocks.ensures.stops (opening_before (g.T.Site.left_at c.args.site.now (g.T.Site.moment c.args.site.now)) (g.T.Site.image c.args.site.now) c.args.first c.args.count)

@@ -1,9 +1,9 @@
-use Rattle.std.proofs.Common.{◌≡◌, ◌∙◌, ◌+◌, ◌*◌, ◌++◌, ◌∷◌, [], ℕ, List, Some, length, sym, ap, subst, refl, arith, rules, length-append}
+use Rattle.std.proofs.Common.{◌≡◌, ◌∙◌, ◌++◌, ◌∷◌, [], ℕ, List, length, sym, ap, subst, refl, arith, rules, length-append}
 use Rattle.std.specs.Prelude.{All}
 use Rattle.hal_base.proofs.StopLemmas.{not_yet, leaves-stay}
 use Rattle.block_journal.specs.Opening.{ReadsBlock}
-use Rattle.block_journal.specs.Redo.{blocks_at}
-use Rattle.block_journal.proofs.Reading.{blocks_begin, blocks_more, whole_more, pushed_is, ok_of}
+use Rattle.block_journal.proofs.Reading.{blocks_begin, blocks_more, whole_more}
+use Rattle.block_journal.proofs.Calls.{room-same, room-then}
 use Rattle.block_journal.proofs.open.read_blocks.Goals as goal
 
 pub loop-number-init : goal.loop-number-init
@@ -16,6 +16,7 @@ loop-number-init g c = record {
   faults = omega arith;
   said = refl;
   say_faults = refl;
+  room = room-same (g.T.Site.room c.args.site.now) (g.T.Site.disk_faults c.args.site.now) _;
 }
 
 pub loop-number-preserved : goal.loop-number-preserved
@@ -23,8 +24,8 @@ loop-number-preserved g c =
     let block = c.read_block.new.block in
     let old = c.loop-number.blocks.items in
     let long : length c.read_block.new.block ≡ 4096 = search (rules, c.read_block.array_long) in
-    let pushed = pushed_is c.push.new.self.items old block _ c.is_err-in-loop-number.result c.push.ensures.items c.is_err-in-loop-number.ensures.negation c.if-is_err-2.false in
-    let read = ok_of c.read_block.result c.is_err.result c.read_block.ensures.block c.is_err.ensures.negation c.if-is_err.false in
+    let pushed : c.push.new.self.items ≡ old ++ block ∷ [] = c.in_ok-push.ensures.items in
+    let read = c.in_ok-read_block.ensures.block in
     record {
       blocks = λ y told far. pushed ∙ blocks_more c.args.first c.loop-number.number c.args.count (g.T.Site.image c.args.site.now) (g.T.Site.image c.loop-number.site) old block c.loop-number.invariant.image c.loop-number-test.true c.loop-number.invariant.blocks (subst (λ (at : ℕ). ReadsBlock at (g.T.Site.image c.loop-number.site) block) c.place_of.ensures read) y told far;
       many = omega (arith, ap length pushed, length-append old (block ∷ []), c.loop-number.invariant.many);
@@ -34,4 +35,14 @@ loop-number-preserved g c =
       faults = omega (arith, c.loop-number.invariant.faults, c.read_block.ensures.cause.later);
       said = c.read_block.ensures.said ∙ c.loop-number.invariant.said;
       say_faults = c.read_block.ensures.say_faults ∙ c.loop-number.invariant.say_faults;
+      room = room-then c.loop-number.invariant.room c.read_block.ensures.room (omega arith);
     }
+
+pub returns-in_err-read_block-clause-room : goal.returns-in_err-read_block-clause-room
+returns-in_err-read_block-clause-room g c = room-then c.loop-number.invariant.room c.read_block.ensures.room (omega arith)
+
+pub returns-in_err-push-clause-room : goal.returns-in_err-push-clause-room
+returns-in_err-push-clause-room g c = room-then c.loop-number.invariant.room c.read_block.ensures.room (omega arith)
+
+pub returns-clause-room : goal.returns-clause-room
+returns-clause-room g c = c.loop-number.invariant.room

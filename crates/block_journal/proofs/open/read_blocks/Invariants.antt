@@ -1,5 +1,6 @@
-use Rattle.std.proofs.Common.{◌≡◌, ◌≤◌, ◌+◌, ◌*◌, ℕ, List, Option, Some, length}
+use Rattle.std.proofs.Common.{◌≡◌, ◌≤◌, ◌+◌, ◌*◌, ℕ, List, Some, length}
 use Rattle.std.specs.Prelude.{All}
+use Rattle.hal_base.specs.Room.{HasRoom}
 use Rattle.hal_base.specs.Stops.{LeavesOnly}
 use Rattle.block_journal.specs.Redo.{blocks_at}
 use Rattle.block_journal.proofs.open.read_blocks.Given as goal
@@ -14,4 +15,5 @@ invariant-loop-number g l = record {
   faults : g.T.Site.disk_faults l.fn.site ≤ g.T.Site.disk_faults l.site;
   said : g.T.Site.said l.site ≡ g.T.Site.said l.fn.site;
   say_faults : g.T.Site.say_faults l.site ≡ g.T.Site.say_faults l.fn.site;
+  room : HasRoom (g.T.Site.room l.fn.site) (g.T.Site.room l.site) (g.T.Site.disk_faults l.fn.site) (g.T.Site.disk_faults l.site) (λ room. 0 ≤ room.0);
 }

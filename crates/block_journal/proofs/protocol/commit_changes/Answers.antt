@@ -1,8 +1,7 @@
-use Rattle.std.proofs.Common.{◌≡◌, ◌∙◌, ◌+◌, ◌*◌, ℕ, List, [], ◌∷◌, length, Some, Ok, Err, Result, ap, arith}
+use Rattle.std.proofs.Common.{◌≡◌, ◌∙◌, ◌+◌, ◌*◌, ℕ, List, [], ◌∷◌, length, Some, ap}
 use Rattle.hal_base.specs.Disk.{written}
-use Rattle.block_journal.specs.Commit.{HasChanges}
 use Rattle.block_journal.specs.Redo.{body_bytes, put_image}
-use Rattle.block_journal.proofs.Calls.{room-larger, room-then, told-then, if_ok}
+use Rattle.block_journal.proofs.Calls.{room-larger, room-then, if_ok}
 use Rattle.block_journal.proofs.Steps.{length-body, image_is, body_is, body_step, gate_step, blocks_step, closing_step, commit_done, room_body, room_gate, room_blocks, body_fits}
 use Rattle.block_journal.proofs.Torn.{Begins}
 use Rattle.block_journal.proofs.protocol.commit_changes.Goals as goal
@@ -113,5 +112,5 @@ returns-clause-done g c =
     image_is (written 4096 (1 ∷ [])) (g.T.Site.image c.write_synced.new.site) (g.T.Site.image c.write_synced-2.new.site) (written (c.args.first + 4096 * c.args.count) (body_bytes c.args.changes.now) y) c.in_ok-write_synced-2.ensures.image (i1 y told) in
     let i3 : (y : List ℕ) → g.T.Site.image c.args.site.now ≡ Some y → g.T.Site.image c.write_blocks.new.site ≡ Some (put_image c.args.first c.args.changes.now (written 4096 (1 ∷ []) (written (c.args.first + 4096 * c.args.count) (body_bytes c.args.changes.now) y))) = λ y told.
     image_is (put_image c.args.first c.args.changes.now) (g.T.Site.image c.write_synced-2.new.site) (g.T.Site.image c.write_blocks.new.site) (written 4096 (1 ∷ []) (written (c.args.first + 4096 * c.args.count) (body_bytes c.args.changes.now) y)) c.in_ok-write_blocks.ensures.image (i2 y told) in
-    if_ok c.write_synced-3.result c.write_synced-3.ensures.image (λ last. commit_done c.args.first c.args.count c.args.changes.now (g.T.Site.image c.args.site.now) begins (g.T.Site.image c.write_synced-3.new.site) (λ y told.
+    if_ok c.write_synced-3.result c.write_synced-3.ensures.image (λ done last. commit_done c.args.first c.args.count c.args.changes.now (g.T.Site.image c.args.site.now) begins (g.T.Site.image c.write_synced-3.new.site) (λ y told.
     image_is (written 4096 (0 ∷ [])) (g.T.Site.image c.write_blocks.new.site) (g.T.Site.image c.write_synced-3.new.site) (put_image c.args.first c.args.changes.now (written 4096 (1 ∷ []) (written (c.args.first + 4096 * c.args.count) (body_bytes c.args.changes.now) y))) last (i3 y told)))

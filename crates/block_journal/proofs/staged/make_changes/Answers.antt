@@ -1,4 +1,4 @@
-use Rattle.std.proofs.Common.{◌≡◌, ◌∙◌, List, ℕ, [], ◌++◌, ◌∷◌, length, get_or, set, take, ap, sym, arith}
+use Rattle.std.proofs.Common.{◌∙◌, List, ℕ, [], length, get_or, set, take, ap, sym, arith}
 use Rattle.std.proofs.lemmas.List.{take_more}
 use Rattle.block_journal.specs.declared.change.Change.{Change}
 use Rattle.block_journal.specs.Redo.{put_all}

@@ -1,4 +1,4 @@
-use Rattle.std.proofs.Common.{◌≡◌, [], arith}
+use Rattle.std.proofs.Common.{[], arith}
 use Rattle.block_journal.specs.declared.change.Change.{Change}
 use Rattle.block_journal.proofs.Place.{place_step, place_stop, place_end}
 use Rattle.block_journal.proofs.staged.place.Goals as goal

@@ -1,0 +1,41 @@
+-- What an opening makes of an image, and what a stop within it may leave.
+use Rattle.std.specs.Prelude.{◌≡◌, ◌⊎◌, ℕ, ◌≤◌, true, List, length, Option, Some}
+use Rattle.block_journal.specs.declared.change.Change.{Change}
+use Rattle.block_journal.specs.Body.{HasBody}
+use Rattle.block_journal.specs.Commit.{IsSettled}
+use Rattle.block_journal.specs.Redo.{blocks_at, is_open, journal_of, journal_start, redone}
+
+-- an image with an open journal of these changes
+pub record IsToRedo (first count : ℕ) (changes : List Change) (image : List ℕ) : Type 0 where
+  pub long : journal_start first count ≤ length image
+  pub opened : is_open image ≡ true
+  pub journal : changes ≡ journal_of first count image
+
+-- the image that is told now has as its blocks what the one before stood for
+pub record IsRedone (first count : ℕ) (before after : Option (List ℕ)) : Type 0 where
+  pub has : (old : List ℕ) → before ≡ Some old → (new : List ℕ) × (after ≡ Some new) × IsSettled first count new × (blocks_at first count new ≡ redone first count old)
+
+-- the image that is told now stands for the same blocks
+pub record SameRedo (first count : ℕ) (before after : Option (List ℕ)) : Type 0 where
+  pub has : (old : List ℕ) → before ≡ Some old → (new : List ℕ) × (after ≡ Some new) × (redone first count new ≡ redone first count old)
+
+-- It stands for the blocks that the image that was told stood for, where that one had all its blocks. A shorter
+-- one is filled up first, and a stop in that may leave any bytes in the part that is filled.
+abbrev pub KeepsRedo : ℕ → ℕ → Option (List ℕ) → List ℕ → Type 0
+KeepsRedo first count told image = (old : List ℕ) → told ≡ Some old → journal_start first count ≤ length old → redone first count image ≡ redone first count old
+
+-- what may be left of an opening: what might have been left before it, or the same redo; and what was said
+abbrev pub OpeningLeaves : (List ℕ → List ℕ → Type 0) → Option (List ℕ) → ℕ → ℕ → List ℕ → List ℕ → Type 0
+OpeningLeaves outcomes told first count image said = (outcomes image said ⊎ KeepsRedo first count told image) × ((was : List ℕ) × outcomes was said)
+
+-- after a redo has begun, only the same redo
+abbrev pub RedoLeaves : (List ℕ → List ℕ → Type 0) → Option (List ℕ) → ℕ → ℕ → List ℕ → List ℕ → Type 0
+RedoLeaves outcomes told first count image said = KeepsRedo first count told image × ((was : List ℕ) × outcomes was said)
+
+-- the image that is told has an open gate, and no body behind its blocks
+abbrev pub IsDamaged : ℕ → ℕ → Option (List ℕ) → Type 0
+IsDamaged first count told = (image : List ℕ) → told ≡ Some image → (is_open image ≡ true) × (HasBody first count image → ⊥)
+
+-- where its gate is open, it has a body
+abbrev pub IsSound : ℕ → ℕ → Option (List ℕ) → Type 0
+IsSound first count told = (image : List ℕ) → told ≡ Some image → is_open image ≡ true → HasBody first count image
