@@ -256,14 +256,18 @@ pub(crate) fn of_fields(alloc: Global, count: u32) -> Result<RawSchema, Fail> {
     Ok(raw)
 }
 
-/// Indexes of the root, on lines from 10.
-pub(crate) fn of_many(alloc: Global, count: u32) -> Result<RawSchema, Fail> {
+/// Indexes of the root, on lines from 10 on, or from 100 back.
+pub(crate) fn of_many(alloc: Global, count: u32, back: bool) -> Result<RawSchema, Fail> {
     let mut raw = of_root(alloc)?;
     for n in 0..count {
         let mut index = raw_index(alloc, ("VDB", "XV", "R", "R", "V", "", ""), 1)?;
         index.name = numbered(n)?;
         index.xdfld = numbered(n)?;
-        index.line = n.wrapping_add(10);
+        index.line = if back {
+            100u32.wrapping_sub(n)
+        } else {
+            n.wrapping_add(10)
+        };
         raw.dbd.indexes.push(index)?;
     }
     Ok(raw)

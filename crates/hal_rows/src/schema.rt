@@ -302,8 +302,9 @@ fn counts_are_said_at_the_item_that_passes_them(rt: HostRuntime) -> Result<(), F
     assert_eq!(rt; said(alloc, of_chain(alloc, 15)?)?, (4, false, 24));
     assert_eq!(rt; said(alloc, of_fields(alloc, 255)?)?, SOUND);
     assert_eq!(rt; said(alloc, of_fields(alloc, 256)?)?, (4, false, 258));
-    assert_eq!(rt; said(alloc, of_many(alloc, 16)?)?, SOUND);
-    assert_eq!(rt; said(alloc, of_many(alloc, 17)?)?, (4, false, 26));
+    assert_eq!(rt; said(alloc, of_many(alloc, 16, false)?)?, SOUND);
+    assert_eq!(rt; said(alloc, of_many(alloc, 17, false)?)?, (4, false, 26));
+    assert_eq!(rt; said(alloc, of_many(alloc, 17, true)?)?, (4, false, 100));
     assert_eq!(rt; said(alloc, of_parts(alloc, 100)?)?, SOUND);
     assert_eq!(rt; said(alloc, of_parts(alloc, 101)?)?, (4, true, 101));
     assert_eq!(rt; said(alloc, of_parts(alloc, 0)?)?, (4, true, 0));

@@ -1,18 +1,17 @@
 -- The keys and names of a raw definition that keeps the rules.
-use Rattle.std.proofs.Common.{◌≡◌, ℕ, zero, suc, ◌+◌, ◌<◌, ◌≤◌, Bool, true, false, ◌&&◌, ◌||◌, not, cond, ◌==◌, nat_lt, nat_le, IsTrue, List, [], ◌∷◌, ◌++◌, length, map, Option, Some, None, refl, sym, ap, ◌∙◌, subst, arith}
+use Rattle.std.proofs.Common.{◌≡◌, ℕ, ◌<◌, Bool, true, false, ◌&&◌, ◌||◌, not, cond, ◌==◌, nat_lt, nat_le, IsTrue, List, [], ◌∷◌, ◌++◌, length, map, Option, Some, None, refl, sym, ap, ◌∙◌, arith}
 use Rattle.std.specs.Prelude.{flat_map, find, option_and_then}
 use Rattle.std.specs.List.{list_all, list_any, slice_get}
 use Rattle.std.specs.Option.{option_map, option_map_or}
-use Rattle.std.specs.Ordering.{is_lt, nat_cmp, ordering_reverse}
+use Rattle.std.specs.Ordering.{is_lt, ordering_reverse}
 use Rattle.std.specs.declared.cmp.Ordering.{Ordering}
 use Rattle.std.specs.declared.cmp.Ordering.TheVariants.{Less, Equal, Greater}
 use Rattle.std.specs.FinMap.{slice_cmp-IsAntisymmetric, nat_cmp-IsAntisymmetric}
 use Rattle.std.specs.Str.{bytes_eq}
-use Rattle.std.proofs.lemmas.Bool.{and_parts, and_from, or_parts, or_right, or_left, not-true, not-false, not_from_false, and_cases, ltb-true, ltb-false, le-leb, eq-eqb, both_ways}
+use Rattle.std.proofs.lemmas.Bool.{and_parts, and_from, or_parts, or_right, or_left, not-true, not_from_false, ltb-true, ltb-false, le-leb, eq-eqb, both_ways}
 use Rattle.std.proofs.lemmas.Cmp.{nat_list_cmp_total}
 use Rattle.std.proofs.lemmas.List.Folds.{list_all-map}
 use Rattle.std.proofs.lemmas.Slice.Eq.{bytes_eq-Decides}
-use Rattle.hal_schema.specs.declared.fault.Place.{Place}
 use Rattle.hal_schema.specs.declared.raw.RawDbd.{RawDbd}
 use Rattle.hal_schema.specs.declared.raw.RawField.{RawField}
 use Rattle.hal_schema.specs.declared.raw.RawPart.{RawPart}
@@ -27,7 +26,7 @@ use Rattle.hal_schema.specs.Places.{partition, statement, twice, when, later}
 use Rattle.hal_schema.specs.Raw.{types_of, seg_type, field_of, key_field, is_sequence_field, parts_of, part_of, high_below, in_order}
 use Rattle.hal_schema.specs.Rules.{same_high, sequence_broken, both_sequence, root_key_broken, highs_broken, high_is_long}
 use Rattle.hal_schema.specs.SegType.{key_bytes}
-use Rattle.hal_schema.proofs.KeptTypes.{nil_parts, not_broken, sound, all_sound, all_kept}
+use Rattle.hal_schema.proofs.KeptTypes.{nil_parts, sound, all_sound, all_kept}
 use Rattle.hal_schema.proofs.KeptSchema.{each_nil}
 use Rattle.hal_schema.proofs.Indexes.{all_weaker}
 use Rattle.hal_schema.proofs.Ordered.{all-order, rise-put}

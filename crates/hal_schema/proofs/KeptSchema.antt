@@ -1,38 +1,26 @@
 -- A raw definition that keeps the rules says a schema that keeps them.
-use Rattle.std.proofs.Common.{◌≡◌, ℕ, zero, suc, ◌+◌, ◌<◌, ◌≤◌, Bool, true, false, ◌&&◌, ◌||◌, ◌⊎◌, inl, inr, not, cond, ◌==◌, nat_lt, nat_le, IsTrue, List, [], ◌∷◌, ◌++◌, length, drop, map, Option, Some, None, refl, sym, ap, ◌∙◌, subst, arith}
-use Rattle.std.specs.Prelude.{flat_map, filter_map, find, option_and_then}
-use Rattle.std.specs.List.{list_all, list_any, enumerate_from, slice_get, cons_option}
-use Rattle.std.specs.Option.{option_map, option_map_or}
-use Rattle.std.specs.Ordering.{is_lt, nat_cmp, ordering_reverse}
-use Rattle.std.specs.declared.cmp.Ordering.{Ordering}
-use Rattle.std.specs.declared.cmp.Ordering.TheVariants.{Less, Equal, Greater}
-use Rattle.std.specs.FinMap.{slice_cmp-IsAntisymmetric, nat_cmp-IsAntisymmetric}
-use Rattle.std.specs.Str.{bytes_eq}
-use Rattle.std.proofs.lemmas.Bool.{and_parts, and_from, or_parts, or_cases, or_right, or_left, not-true, not-false, not_from_false, eqb-false, leb-true, leb-false, ltb-true, ltb-false, le-leb, lt-leb, le-ltb, lt-ltb, both_ways, eqb-true, eq-eqb, cases_Bool}
-use Rattle.std.proofs.lemmas.Cmp.{nat_list_cmp_total}
+use Rattle.std.proofs.Common.{◌≡◌, ℕ, zero, suc, ◌<◌, ◌≤◌, Bool, true, false, ◌&&◌, ◌||◌, not, ◌==◌, nat_lt, nat_le, IsTrue, List, [], ◌∷◌, length, drop, map, Option, Some, None, refl, ◌∙◌, arith}
+use Rattle.std.specs.Prelude.{flat_map, filter_map}
+use Rattle.std.specs.List.{list_all, enumerate_from, cons_option}
+use Rattle.std.specs.Option.{option_map_or}
+use Rattle.std.proofs.lemmas.Bool.{and_parts, and_from, not-true, eqb-false, ltb-true, ltb-false, le-leb}
 use Rattle.std.proofs.lemmas.List.{length-map}
 use Rattle.std.proofs.lemmas.List.Folds.{list_all-map}
-use Rattle.std.proofs.lemmas.Slice.Eq.{bytes_eq-Decides}
 use Rattle.hal_schema.specs.declared.fault.Place.{Place}
 use Rattle.hal_schema.specs.declared.raw.RawDbd.{RawDbd}
-use Rattle.hal_schema.specs.declared.raw.RawField.{RawField}
 use Rattle.hal_schema.specs.declared.raw.RawIndex.{RawIndex}
 use Rattle.hal_schema.specs.declared.raw.RawPart.{RawPart}
 use Rattle.hal_schema.specs.declared.raw.RawParts.{RawParts}
 use Rattle.hal_schema.specs.declared.raw.RawSchema.{RawSchema}
 use Rattle.hal_schema.specs.declared.raw.RawType.{RawType}
-use Rattle.hal_schema.specs.declared.schema.Field.{Field}
 use Rattle.hal_schema.specs.declared.schema.SegType.{SegType}
 use Rattle.hal_schema.specs.declared.schema.IndexDef.{IndexDef}
-use Rattle.hal_schema.specs.declared.schema.PartDef.{PartDef}
-use Rattle.hal_schema.specs.Keys.{key_cmp}
-use Rattle.hal_schema.specs.Keeps.{KeepsStatements, KeepsRest}
-use Rattle.hal_schema.specs.Lawful.{parents_are_before, type_names_differ, counts_are_kept, fields_fit, field_fits, keys_are_fields, root_key_is_unique, letters_are_known, indexes_are_kept, index_is_kept, highs_rise, part_is_kept, factors_fit, number_fits, blocks_are_kept, all_differ, all_rise, is_key_portion}
-use Rattle.hal_schema.specs.Places.{passing, partition, statement, twice, when, later}
-use Rattle.hal_schema.specs.Raw.{types_of, seg_type, field_of, key_field, is_sequence_field, indexes_of, index_of, parts_of, part_of, target_below, high_below, in_order}
-use Rattle.hal_schema.specs.Rules.{names_twice, same_name, same_high, type_name, index_name, part_name, same_number, field_names, statement_counts_passed, part_counts_passed, sizes_in, sizes_broken, sequence_broken, both_sequence, root_key_broken, letters_unknown, indexes_broken, highs_broken, high_is_long, factors_broken, numbers_broken, names_repeated, counts_passed}
-use Rattle.hal_schema.specs.SegType.{level_of, key_bytes, type_of}
-use Rattle.hal_schema.proofs.KeptTypes.{nil_parts, nil_at, not_broken, sound, all_sound, all_kept, kept_sizes, kept_bytes}
+use Rattle.hal_schema.specs.Lawful.{counts_are_kept, fields_fit, field_fits, letters_are_known, indexes_are_kept, index_is_kept, part_is_kept, factors_fit, number_fits, blocks_are_kept, all_rise}
+use Rattle.hal_schema.specs.Places.{is_before, passing, partition, statement, when}
+use Rattle.hal_schema.specs.Raw.{types_of, seg_type, field_of, indexes_of, index_of, parts_of, part_of, target_below, high_below, in_order}
+use Rattle.hal_schema.specs.Rules.{statement_counts_passed, part_counts_passed, sizes_in, sizes_broken, letters_unknown, indexes_broken, factors_broken, numbers_broken, counts_passed}
+use Rattle.hal_schema.specs.SegType.{level_of}
+use Rattle.hal_schema.proofs.KeptTypes.{nil_parts, not_broken, sound, all_sound, all_kept, kept_sizes, kept_bytes}
 use Rattle.hal_schema.proofs.Indexes.{all_weaker}
 use Rattle.hal_schema.proofs.Numbered.{numbered-map}
 use Rattle.hal_schema.proofs.Ordered.{all-order, length-order, rise-put}
@@ -88,7 +76,7 @@ kept_parts dbd parts f n =
 
 passing-few : (most : ℕ) (places : List Place) → passing most places ≡ [] → length places ≤ most
 unfolding passing
-passing-few most places e = by most places e
+passing-few most places e = let n = length-order is_before places in let l = by most (in_order is_before places) e in omega (arith, n, l)
   where
     by : (n : ℕ) (xs : List Place) → drop n xs ≡ [] → length xs ≤ n
     by zero [] e = omega arith

@@ -1,5 +1,5 @@
 -- The first of some places.
-use Rattle.std.proofs.Common.{◌≡◌, List, [], ◌∷◌, Option, Some, None, fold, refl}
+use Rattle.std.proofs.Common.{◌≡◌, List, [], ◌∷◌, Some, None, fold, refl}
 use Rattle.hal_schema.specs.declared.fault.Place.{Place}
 use Rattle.hal_schema.specs.Places.{earlier, sooner, least}
 

@@ -11,3 +11,5 @@ pub mod Ordered
 pub mod KeptSchema
 pub mod KeptKeys
 pub mod KeptNames
+pub mod Differ
+pub mod KeptFields

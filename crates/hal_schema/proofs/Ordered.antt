@@ -1,10 +1,11 @@
 -- Lists that are put in order item by item, from the last on.
-use Rattle.std.proofs.Common.{◌≡◌, ℕ, ◌-◌, suc, ◌+◌, ◌<◌, ◌≤◌, Bool, true, false, ◌&&◌, ◌||◌, ◌⊎◌, inl, inr, cond, List, [], ◌∷◌, ◌++◌, length, get_or, take, drop, map, Option, Some, None, refl, sym, ap, ◌∙◌, subst, arith}
+use Rattle.std.proofs.Common.{◌≡◌, ℕ, ◌-◌, zero, suc, ◌+◌, ◌<◌, ◌≤◌, Bool, true, false, ◌||◌, ◌⊎◌, inl, inr, cond, List, [], ◌∷◌, length, get_or, drop, Some, refl, sym, ap, ◌∙◌, arith}
 use Rattle.std.specs.Prelude.{insert, filter_map}
 use Rattle.std.specs.List.{list_all, prefix_len, cons_option}
 use Rattle.std.specs.Ordering.{is_lt}
 use Rattle.std.proofs.lemmas.List.{drop_more}
 use Rattle.std.proofs.lemmas.Bool.{and_parts, and_from, or_cases, both_ways}
+use Rattle.hal_schema.specs.declared.fault.Place.{Place}
 use Rattle.hal_schema.specs.declared.raw.RawDbd.{RawDbd}
 use Rattle.hal_schema.specs.declared.raw.RawPart.{RawPart}
 use Rattle.hal_schema.specs.declared.raw.RawIndex.{RawIndex}
@@ -12,6 +13,7 @@ use Rattle.hal_schema.specs.declared.schema.SegType.{SegType}
 use Rattle.hal_schema.specs.declared.schema.IndexDef.{IndexDef}
 use Rattle.hal_schema.specs.declared.schema.PartDef.{PartDef}
 use Rattle.hal_schema.specs.Keys.{key_cmp}
+use Rattle.hal_schema.specs.Places.{is_before, passing}
 use Rattle.hal_schema.specs.Lawful.{all_rise, is_below_first}
 use Rattle.hal_schema.specs.Raw.{put_in_order, in_order, parts_of, part_of, indexes_of, index_of, target_below, high_below}
 
@@ -28,6 +30,12 @@ drop_before : {X : Type 0} (xs : List X) (n : ℕ) (x : X) → 0 < n → n ≤ l
 drop_before xs n x z l e =
     let m : n - 1 + 1 ≡ n = omega arith in
     drop_more xs (n - 1) x (omega arith) ∙ ap (λ y. y ∷ drop (n - 1 + 1) xs) (sym e) ∙ ap (λ k. x ∷ drop k xs) m
+
+pub places_step : (places : List Place) (left : ℕ) (p : Place) (list slice new : List Place) (at : ℕ) → 0 < left → left ≤ length places → p ≡ get_or places (left - 1) p
+    → list ≡ in_order is_before (drop left places) → slice ≡ list → at ≡ prefix_len (λ q. is_before q p) slice → new ≡ insert list at p → new ≡ in_order is_before (drop (left - 1) places)
+places_step places left p list slice new at z l r e s a n =
+    n ∙ ap (λ k. insert list k p) (a ∙ ap (prefix_len (λ q. is_before q p)) s) ∙ sym (put-insert is_before p list) ∙ ap (put_in_order is_before p) e
+    ∙ sym (ap (in_order is_before) (drop_before places left p z l r))
 
 pub parts_step : (dbd : RawDbd) (parts : List RawPart) (left : ℕ) (p : RawPart) (list slice new : List PartDef) (part : PartDef) (high : List ℕ) (at : ℕ) → 0 < left → left ≤ length parts → p ≡ get_or parts (left - 1) p
     → list ≡ parts_of dbd (drop left parts) → part ≡ part_of dbd p → slice ≡ list → high ≡ part.high → at ≡ prefix_len (λ q. is_lt (key_cmp q.high high)) slice → new ≡ insert list at part → new ≡ parts_of dbd (drop (left - 1) parts)
@@ -68,6 +76,17 @@ length-put goes x (y ∷ ys) = by (goes y x) (length-put goes x ys)
 pub length-order : {X : Type 0} (goes : X → X → Bool) (xs : List X) → length (in_order goes xs) ≡ length xs
 length-order goes [] = refl
 length-order goes (x ∷ xs) = let a = length-put goes x (in_order goes xs) in let b = length-order goes xs in omega (arith, a, b)
+
+drop-few : {X : Type 0} (n : ℕ) (xs : List X) → length xs ≤ n → drop n xs ≡ []
+drop-few zero [] l = refl
+drop-few zero (x ∷ xs) l = absurd (omega arith)
+drop-few (suc n) [] l = refl
+drop-few (suc n) (x ∷ xs) l = drop-few n xs (omega arith)
+
+-- no more than so many pass nothing
+pub passing-none : (most : ℕ) (places : List Place) → length places ≤ most → passing most places ≡ []
+unfolding passing
+passing-none most places l = let n = length-order is_before places in drop-few most (in_order is_before places) (omega (arith, n, l))
 
 -- an item that is above those that go before it, and below all others
 first_put : {X : Type 0} (goes rises : X → X → Bool) (x y : X) (ys : List X) → rises y x ≡ true → is_below_first rises y ys ≡ true → is_below_first rises y (put_in_order goes x ys) ≡ true

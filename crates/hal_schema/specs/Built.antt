@@ -1,13 +1,8 @@
 -- The schema that a raw definition says, and why it says none.
-use Rattle.std.specs.Prelude.{◌≡◌, ℕ, List, [], Option, Some, ⊤}
-use Rattle.std.specs.List.{slice_get}
-use Rattle.hal_schema.specs.declared.fault.Place.{Place}
-use Rattle.hal_schema.specs.declared.fault.SchemaFault.{SchemaFault}
-use Rattle.hal_schema.specs.declared.fault.SchemaFault.TheVariants.{Rule, Memory}
+use Rattle.std.specs.Prelude.{◌≡◌}
 use Rattle.hal_schema.specs.declared.raw.RawSchema.{RawSchema}
 use Rattle.hal_schema.specs.declared.schema.Schema.{Schema}
 use Rattle.hal_schema.specs.Raw.{types_of, indexes_of, parts_of, rm_of, anch_of, rbn_of}
-use Rattle.hal_schema.specs.Rules.{broken, first_broken}
 
 pub record IsSchemaOf (raw : RawSchema) (schema : Schema) : Type 0 where
   pub name : schema.name ≡ raw.dbd.name

@@ -1,6 +1,5 @@
 -- What a refusal of a definition says.
-use Rattle.std.specs.Prelude.{◌≡◌, ℕ, List, [], Option, Some, ⊤}
-use Rattle.std.specs.List.{slice_get}
+use Rattle.std.specs.Prelude.{◌≡◌, ℕ, List, Option, Some, ⊤}
 use Rattle.hal_schema.specs.declared.fault.Place.{Place}
 use Rattle.hal_schema.specs.declared.fault.SchemaFault.{SchemaFault}
 use Rattle.hal_schema.specs.declared.fault.SchemaFault.TheVariants.{Rule, Memory}

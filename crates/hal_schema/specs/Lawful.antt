@@ -40,6 +40,22 @@ parents_are_before types = list_all (λ t. parent_is_before t.0 t.1.parent) (enu
 abbrev pub type_names_differ : List SegType → Bool
 type_names_differ types = all_differ bytes_eq (map (λ t. t.name) types)
 
+abbrev pub index_names_differ : List IndexDef → Bool
+index_names_differ indexes = all_differ bytes_eq (map (λ i. i.name) indexes)
+
+abbrev pub part_names_differ : List PartDef → Bool
+part_names_differ parts = all_differ bytes_eq (map (λ p. p.name) parts)
+
+abbrev pub part_numbers_differ : List PartDef → Bool
+part_numbers_differ parts = all_differ (λ m n. m == n) (map (λ p. p.number) parts)
+
+-- a type's fields, with the XDFLDs of the indexes whose target it is
+abbrev pub field_names : List IndexDef → ℕ → SegType → List (List ℕ)
+field_names indexes code t = map (λ f. f.name) t.fields ++ map (λ i. i.xdfld) (filter (λ i. i.target == code) indexes)
+
+abbrev pub field_names_differ : List SegType → List IndexDef → Bool
+field_names_differ types indexes = list_all (λ t. all_differ bytes_eq (field_names indexes t.0 t.1)) (enumerate_from 1 types)
+
 abbrev pub counts_are_kept : List SegType → List IndexDef → List PartDef → Bool
 counts_are_kept types indexes parts =
     nat_le 1 (length types) && nat_le (length types) 255 && list_all (λ t. nat_le (level_of types t.0) 15) (enumerate_from 1 types)

@@ -1,6 +1,7 @@
 -- Where the rules of a definition are broken, and the order of these places: the statements by their lines, then `blocks`, then the partitions in the order of the file.
-use Rattle.std.specs.Prelude.{ℕ, Bool, true, false, ◌&&◌, ◌||◌, nat_le, nat_lt, List, [], ◌∷◌, ◌++◌, Option, None, Some, drop, fold, flat_map, if◌then◌else◌}
+use Rattle.std.specs.Prelude.{ℕ, Bool, true, false, ◌&&◌, ◌||◌, not, nat_le, List, [], ◌∷◌, ◌++◌, Option, None, Some, drop, fold, flat_map, if◌then◌else◌}
 use Rattle.hal_schema.specs.declared.fault.Place.{Place}
+use Rattle.hal_schema.specs.Raw.{in_order}
 
 abbrev pub statement : ℕ → Place
 statement line = record { part = false; line = line }
@@ -35,6 +36,9 @@ abbrev pub twice : {X : Type 0} → (X → X → Bool) → (X → Place) → Lis
 twice same at [] = []
 twice same at (x ∷ xs) = flat_map (λ y. when (same x y) (later (at x) (at y))) xs ++ twice same at xs
 
--- those behind the first so many
+abbrev pub is_before : Place → Place → Bool
+is_before a b = not (at_or_before b a)
+
+-- the items that pass a count: in the order of the places, those behind the first so many
 unfoldable pub passing : ℕ → List Place → List Place
-passing most places = drop most places
+passing most places = drop most (in_order is_before places)

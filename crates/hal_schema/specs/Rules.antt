@@ -1,5 +1,5 @@
 -- The rules of a definition: each one's places are those at which it is broken.
-use Rattle.std.specs.Prelude.{ℕ, ◌+◌, ◌==◌, nat_lt, nat_le, Bool, true, false, ◌&&◌, ◌||◌, not, List, [], ◌∷◌, ◌++◌, length, Option, None, Some, option_and_then, map, filter, flat_map, is_some, is_none, if◌then◌else◌}
+use Rattle.std.specs.Prelude.{ℕ, ◌+◌, ◌==◌, nat_lt, nat_le, Bool, false, ◌&&◌, ◌||◌, not, List, [], ◌∷◌, ◌++◌, length, Option, None, Some, map, filter, flat_map, is_some, is_none, if◌then◌else◌}
 use Rattle.std.specs.List.{enumerate_from, list_any, slice_get}
 use Rattle.std.specs.Option.{option_map_or}
 use Rattle.std.specs.Str.{bytes_eq}
@@ -13,7 +13,6 @@ use Rattle.hal_schema.specs.declared.raw.RawParts.{RawParts}
 use Rattle.hal_schema.specs.declared.raw.RawDbd.{RawDbd}
 use Rattle.hal_schema.specs.declared.raw.RawSchema.{RawSchema}
 use Rattle.hal_schema.specs.declared.schema.SegType.{SegType}
-use Rattle.hal_schema.specs.declared.schema.PartDef.{PartDef}
 use Rattle.hal_schema.specs.SegType.{level_of, key_bytes}
 use Rattle.hal_schema.specs.Places.{statement, partition, when, twice, passing, least}
 use Rattle.hal_schema.specs.Lawful.{is_key_portion, field_fits, index_is_kept, factors_fit, number_fits, blocks_are_kept}
@@ -64,7 +63,7 @@ names_repeated raw =
     names_twice (map type_name raw.dbd.types) ++ names_twice (map index_name raw.dbd.indexes) ++ names_twice (map part_name raw.parts.parts)
     ++ twice same_number (λ p. partition p.place) raw.parts.parts ++ flat_map (λ t. names_twice (field_names raw.dbd.indexes t)) raw.dbd.types
 
--- 4: more than 255 types, 15 levels, 255 fields in a segment or 16 indexes, or not 1 to 100 partitions
+-- 4: more than 255 types, 15 levels, 255 fields in a segment or 16 indexes, or not 1 to 100 partitions; each item that passes a count is a place
 abbrev pub statement_counts_passed : RawDbd → List Place
 statement_counts_passed dbd =
     passing 255 (map (λ t. statement t.line) dbd.types)

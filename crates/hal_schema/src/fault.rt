@@ -1,8 +1,11 @@
-ghost use Rattle.std.specs.Prelude.{◌≡◌, [], ◌∷◌, ◌++◌, OnOk, OnErr, IfErr};
-ghost use Rattle.hal_schema.specs.Places.{at_or_before, earlier, later, least, partition, sooner, statement, when};
+ghost use Rattle.std.specs.Prelude.{◌≡◌, ◌≤◌, [], ◌∷◌, ◌++◌, OnOk, OnErr, IfErr, IfOk, length};
+ghost use Rattle.std.specs.List.{prefix_len};
+ghost use Rattle.hal_schema.specs.Places.{at_or_before, earlier, is_before, later, least, partition, sooner, statement, when};
+ghost use Rattle.hal_schema.specs.Raw.{in_order};
 ghost use Rattle.hal_schema.specs.Faults.{IsFaultAt};
 
 use hal_base::{List, Memory};
+use std::alloc::Global;
 
 /// Where a rule is broken: on a line of the DBD text, or at a partition's place in the partition file, which
 /// is 0 for `blocks`.
@@ -63,6 +66,32 @@ pub(crate) fn later(a: Place, b: Place) -> Place
     ensures { result ≡ later a b }
 {
     if is_at_or_before(a, b) { b } else { a }
+}
+
+/// The places in their order.
+pub(crate) fn in_order(alloc: Global, places: &[Place]) -> Result<List<Place>, Memory>
+    ensures { IfOk result (λ list. list ≡ in_order is_before places.now) }
+{
+    let mut list = List::new(alloc);
+    let mut left = places.len();
+    while left > 0 {
+        left -= 1;
+        let place = &places[left];
+        list.insert(places_before(list.as_slice(), *place), *place)?;
+    }
+    Ok(list)
+}
+
+fn places_before(places: &[Place], place: Place) -> usize
+    ensures place { result ≡ prefix_len (λ p. is_before p place) places.now }
+    ensures within { result ≤ length places.now }
+{
+    for (i, p) in places.iter().enumerate() {
+        if is_at_or_before(place, *p) {
+            return i;
+        }
+    }
+    places.len()
 }
 
 /// Takes a place down where a rule is broken there.

@@ -1,6 +1,6 @@
 ghost use Rattle.std.specs.Prelude.{IsTrue};
 ghost use Rattle.std.specs.List.{list_all};
-ghost use Rattle.hal_schema.specs.Lawful.{parents_are_before, type_names_differ, counts_are_kept, fields_fit, keys_are_fields, root_key_is_unique, letters_are_known, indexes_are_kept, highs_rise, part_is_kept, blocks_are_kept};
+ghost use Rattle.hal_schema.specs.Lawful.{parents_are_before, type_names_differ, index_names_differ, part_names_differ, part_numbers_differ, field_names_differ, counts_are_kept, fields_fit, keys_are_fields, root_key_is_unique, letters_are_known, indexes_are_kept, highs_rise, part_is_kept, blocks_are_kept};
 
 use hal_base::{Key, List, Name8};
 
@@ -74,6 +74,10 @@ pub struct Schema {
     pub blocks: u32,
     pub ghost parents: { IsTrue (parents_are_before types) },
     pub ghost type_names: { IsTrue (type_names_differ types) },
+    pub ghost index_names: { IsTrue (index_names_differ indexes) },
+    pub ghost part_names: { IsTrue (part_names_differ parts) },
+    pub ghost part_numbers: { IsTrue (part_numbers_differ parts) },
+    pub ghost field_names: { IsTrue (field_names_differ types indexes) },
     pub ghost counts: { IsTrue (counts_are_kept types indexes parts) },
     pub ghost fields: { IsTrue (fields_fit types) },
     pub ghost keys: { IsTrue (keys_are_fields types) },

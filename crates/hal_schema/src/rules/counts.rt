@@ -6,7 +6,7 @@ ghost use Rattle.hal_schema.specs.Raw.{types_of};
 ghost use Rattle.hal_schema.specs.Rules.{counts_passed, part_counts_passed, statement_counts_passed};
 ghost use Rattle.hal_schema.specs.SegType.{level_of};
 
-use crate::fault::{note, partition, statement};
+use crate::fault::{in_order, note, partition, statement};
 use crate::rules::parents::level_in;
 use crate::{Place, RawDbd, RawField, RawIndex, RawPart, RawSchema, RawType};
 use hal_base::{List, Memory};
@@ -34,6 +34,7 @@ fn statement_counts_passed(
     ensures { OnOk result (places.new ≡ places.old ++ statement_counts_passed dbd.now) }
 {
     passing(
+        alloc,
         places,
         255,
         type_places(alloc, dbd.types.as_slice())?.as_slice(),
@@ -41,6 +42,7 @@ fn statement_counts_passed(
     levels_passed(places, dbd.types.as_slice())?;
     fields_passed(alloc, places, dbd.types.as_slice())?;
     passing(
+        alloc,
         places,
         16,
         index_places(alloc, dbd.indexes.as_slice())?.as_slice(),
@@ -55,7 +57,7 @@ fn part_counts_passed(
     ensures { OnOk result (places.new ≡ places.old ++ part_counts_passed parts.now) }
 {
     note(places, parts.is_empty(), partition(0))?;
-    passing(places, 100, part_places(alloc, parts)?.as_slice())
+    passing(alloc, places, 100, part_places(alloc, parts)?.as_slice())
 }
 
 fn levels_passed(places: &mut List<Place>, types: &[RawType]) -> Result<(), Memory>
@@ -73,6 +75,7 @@ fn fields_passed(alloc: Global, places: &mut List<Place>, types: &[RawType]) -> 
 {
     for t in types {
         passing(
+            alloc,
             places,
             255,
             field_places(alloc, t.fields.as_slice())?.as_slice(),
@@ -121,16 +124,28 @@ fn part_places(alloc: Global, parts: &[RawPart]) -> Result<List<Place>, Memory>
     Ok(places)
 }
 
-/// Those behind the first so many.
+/// The items that pass a count, by the order of their places.
 #[tactic(auto, unfolding(crate::specs::Places::passing))]
-fn passing(places: &mut List<Place>, most: usize, all: &[Place]) -> Result<(), Memory>
+fn passing(
+    alloc: Global,
+    places: &mut List<Place>,
+    most: usize,
+    all: &[Place],
+) -> Result<(), Memory>
     ensures { OnOk result (places.new ≡ places.old ++ passing most all.now) }
 {
     if all.len() <= most {
         return Ok(());
     }
-    for p in &all[most..] {
-        places.push(*p)?;
+    let ordered = in_order(alloc, all)?;
+    append(places, &ordered.as_slice()[most..])
+}
+
+fn append(places: &mut List<Place>, more: &[Place]) -> Result<(), Memory>
+    ensures { OnOk result (places.new ≡ places.old ++ more.now) }
+{
+    for place in more {
+        places.push(*place)?;
     }
     Ok(())
 }

@@ -1,13 +1,14 @@
-use Rattle.std.proofs.Common.{◌≡◌, ℕ, ◌<◌, ◌≤◌, true, length, sym, ap, subst, ◌∙◌, arith}
+use Rattle.std.proofs.Common.{◌≡◌, ◌≤◌, true, length, sym, ap, subst, ◌∙◌, arith}
 use Rattle.std.specs.List.{list_all}
 use Rattle.std.proofs.lemmas.List.{length-map}
-use Rattle.hal_schema.specs.Lawful.{parents_are_before, type_names_differ, counts_are_kept, fields_fit, keys_are_fields, root_key_is_unique, letters_are_known, indexes_are_kept, highs_rise, part_is_kept, factors_fit, number_fits}
+use Rattle.hal_schema.specs.Lawful.{parents_are_before, type_names_differ, index_names_differ, part_names_differ, part_numbers_differ, field_names_differ, counts_are_kept, fields_fit, keys_are_fields, root_key_is_unique, letters_are_known, indexes_are_kept, highs_rise, part_is_kept, factors_fit, number_fits}
 use Rattle.hal_schema.specs.Raw.{types_of, seg_type, part_of, indexes_of, parts_of}
 use Rattle.hal_schema.proofs.Judged.{no_fault}
 use Rattle.hal_schema.proofs.KeptTypes.{kept_parents}
 use Rattle.hal_schema.proofs.KeptSchema.{few_types, kept_factors, kept_numbers, kept_counts, kept_fields, kept_letters, kept_indexes, kept_parts, kept_blocks}
 use Rattle.hal_schema.proofs.KeptKeys.{kept_keys, kept_root_key, kept_highs}
-use Rattle.hal_schema.proofs.KeptNames.{kept_type_names}
+use Rattle.hal_schema.proofs.KeptNames.{kept_type_names, kept_index_names, kept_part_names, kept_part_numbers}
+use Rattle.hal_schema.proofs.KeptFields.{kept_field_names}
 use Rattle.hal_schema.proofs.built.built.Goals as goal
 
 pub build_types-requires-clause-few : goal.build_types-requires-clause-few
@@ -61,6 +62,11 @@ invariant_of-result c =
     record {
       parents = subst (λ ts. parents_are_before ts ≡ true) (sym T) (kept_parents raw.dbd.types kept.parents kept.roots);
       type_names = subst (λ ts. type_names_differ ts ≡ true) (sym T) (kept_type_names raw kept.names);
+      index_names = subst (λ is. index_names_differ is ≡ true) (sym I) (kept_index_names raw (types_of raw.dbd.types) kept.names);
+      part_names = subst (λ ps. part_names_differ ps ≡ true) (sym P) (kept_part_names raw kept.names);
+      part_numbers = subst (λ ps. part_numbers_differ ps ≡ true) (sym P) (kept_part_numbers raw kept.names);
+      field_names = subst (λ ts. field_names_differ ts c.in_ok-indexes.indexes ≡ true) (sym T)
+          (subst (λ is. field_names_differ (types_of raw.dbd.types) is ≡ true) (sym I) (kept_field_names raw kept.names));
       counts = subst (λ ts. counts_are_kept ts c.in_ok-indexes.indexes c.in_ok-parts.parts ≡ true) (sym T)
           (subst (λ is. counts_are_kept (types_of raw.dbd.types) is c.in_ok-parts.parts ≡ true) (sym I)
           (subst (λ ps. counts_are_kept (types_of raw.dbd.types) (indexes_of (types_of raw.dbd.types) raw.dbd.indexes) ps ≡ true) (sym P) (kept_counts raw kept.counts c.requires)));

@@ -1,4 +1,3 @@
-use Rattle.std.proofs.Common.{ap, sym, ◌∙◌, subst}
 use Rattle.std.proofs.lemmas.Result.{err_from_is_err_and, IfErr-weaker}
 use Rattle.hal_schema.proofs.Judged.{fault_parents, fault_roots, fault_names, fault_counts, fault_sizes, fault_sequence, fault_root_key, fault_letters}
 use Rattle.hal_schema.proofs.KeptTypes.{kept_parents}

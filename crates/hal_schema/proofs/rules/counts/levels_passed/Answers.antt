@@ -1,11 +1,10 @@
-use Rattle.std.proofs.Common.{◌≡◌, ℕ, ◌++◌, ◌==◌, nat_lt, List, is_some, is_none, if◌then◌else◌, ap, sym, ◌∙◌, arith}
+use Rattle.std.proofs.Common.{ℕ, nat_lt, List, arith}
 use Rattle.std.proofs.lemmas.Grind.{common_steps}
 use Rattle.hal_schema.specs.declared.fault.Place.{Place}
 use Rattle.hal_schema.specs.declared.raw.RawType.{RawType}
 use Rattle.hal_schema.specs.Places.{statement, when}
 use Rattle.hal_schema.specs.SegType.{level_of}
 use Rattle.hal_schema.specs.Raw.{types_of}
-use Rattle.hal_schema.specs.Rules.{is_unknown_parent}
 use Rattle.hal_schema.proofs.Numbered.{numbered_more}
 use Rattle.hal_schema.proofs.rules.counts.levels_passed.Goals as goal
 

@@ -1,4 +1,4 @@
-use Rattle.std.proofs.Common.{◌≡◌, ◌<◌, sym, ◌∙◌, arith}
+use Rattle.std.proofs.Common.{sym, ◌∙◌, arith}
 use Rattle.std.proofs.lemmas.Bool.{ne_eqb}
 use Rattle.hal_schema.proofs.Ancestry.{types_lower, above_like}
 use Rattle.hal_schema.proofs.rules.indexes.is_at_or_below.Goals as goal

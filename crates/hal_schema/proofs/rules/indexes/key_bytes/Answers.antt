@@ -1,4 +1,4 @@
-use Rattle.std.proofs.Common.{◌≡◌, ap, sym, ◌∙◌}
+use Rattle.std.proofs.Common.{ap, sym, ◌∙◌}
 use Rattle.std.specs.Option.{option_map_or}
 use Rattle.hal_schema.proofs.Ancestry.{key_bytes-at}
 use Rattle.hal_schema.proofs.rules.indexes.key_bytes.Goals as goal

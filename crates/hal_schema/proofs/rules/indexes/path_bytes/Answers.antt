@@ -1,6 +1,4 @@
-use Rattle.std.proofs.Common.{◌≡◌, ◌<◌, ◌+◌, sym, ap, ◌∙◌, arith}
-use Rattle.std.specs.Option.{option_map_or}
-use Rattle.hal_schema.specs.SegType.{path_key_bytes}
+use Rattle.std.proofs.Common.{sym, arith}
 use Rattle.hal_schema.proofs.Ancestry.{types_lower, path-above, above-child}
 use Rattle.hal_schema.proofs.rules.indexes.path_bytes.Goals as goal
 

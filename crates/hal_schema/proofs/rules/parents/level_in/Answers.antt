@@ -1,4 +1,4 @@
-use Rattle.std.proofs.Common.{◌≡◌, ◌<◌, sym, ◌∙◌, arith}
+use Rattle.std.proofs.Common.{sym, ◌∙◌, arith}
 use Rattle.hal_schema.specs.Raw.{types_of}
 use Rattle.hal_schema.proofs.Ancestry.{types_lower, level-child, level-root, level-short}
 use Rattle.hal_schema.proofs.rules.parents.level_in.Goals as goal

@@ -1,0 +1,3 @@
+pub mod Dbd
+pub mod Partitions
+pub mod Wrapped

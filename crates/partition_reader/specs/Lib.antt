@@ -1,0 +1,3 @@
+pub mod Partitions
+pub mod Tables
+pub mod Values

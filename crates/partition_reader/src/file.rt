@@ -1,0 +1,27 @@
+// The whole file.
+ghost use Rattle.dbd_reader.specs.Definition.{Says};
+ghost use Rattle.partition_reader.specs.Partitions.{partitions_of};
+
+use crate::table::parts_of;
+use dbd_reader::TextFault;
+use hal_schema::RawParts;
+use std::alloc::Global;
+
+/// Reads a partition file: the raw definitions of its partitions in the order of the file, whose own rules
+/// aren't looked at yet.
+///
+/// The first table that breaks a rule is said by its place, which counts the partitions from 1; 0 is the file's
+/// own table.
+#[tactic(auto, unfolding(crate::specs::Partitions::partitions_of, crate::specs::Partitions::toml_of))]
+pub fn read_partitions(alloc: Global, text: &[u8]) -> Result<RawParts, TextFault>
+    ensures { Says result (partitions_of text.now) }
+{
+    let Ok(text) = str::from_utf8(text) else {
+        return Err(TextFault::Rule { rule: 21, line: 0 });
+    };
+    match toml::table_from_str(alloc, text) {
+        Ok(table) => parts_of(alloc, &table),
+        Err(fault) if fault.is_memory() => Err(TextFault::Memory),
+        Err(_) => Err(TextFault::Rule { rule: 21, line: 0 }),
+    }
+}
