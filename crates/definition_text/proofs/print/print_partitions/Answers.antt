@@ -1,0 +1,5 @@
+use Rattle.definition_text.proofs.ReadBack.{partitions_read_back}
+use Rattle.definition_text.proofs.print.print_partitions.Goals as goal
+
+pub returns-clause-reads_back : goal.returns-clause-reads_back
+returns-clause-reads_back c h = rw c.in_ok-text.ensures (partitions_read_back c.args.schema.now h)

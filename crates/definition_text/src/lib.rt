@@ -1,0 +1,12 @@
+//! The texts of definitions, both ways, and that what was printed reads back.
+#![tactic(auto)]
+
+mod print;
+
+pub use dbd_reader::{TextFault, read_dbd};
+pub use definition_printer::print_dbd;
+pub use partition_reader::read_partitions;
+pub use print::print_partitions;
+
+#[cfg(test)]
+mod tests;

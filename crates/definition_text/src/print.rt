@@ -1,0 +1,17 @@
+ghost use Rattle.std.specs.Prelude.{◌≡◌, IfOk};
+ghost use Rattle.definition_printer.specs.Partitions.{partitions_text};
+ghost use Rattle.partition_reader.specs.Partitions.{partitions_of};
+ghost use Rattle.definition_text.specs.Raw.{ArePrintable, raw_parts_of};
+
+use hal_base::{Bytes, Memory};
+use hal_schema::Schema;
+use std::alloc::Global;
+
+/// The canonical partition file, as `definition_printer` prints it; reading it gives the schema's partitions again.
+pub fn print_partitions(alloc: Global, schema: &Schema) -> Result<Bytes, Memory>
+    ensures text { IfOk result (λ text. text ≡ partitions_text schema.now) }
+    ensures reads_back { IfOk result (λ text. ArePrintable schema.now → partitions_of text ≡ Ok (raw_parts_of schema.now)) }
+{
+    let text = definition_printer::print_partitions(alloc, schema)?;
+    Ok(text)
+}
