@@ -79,9 +79,6 @@ operator_no_word text op rest (inr h) =
 
 -- ---- clauses
 
-clause_is : (clause : Clause) → record { field = clause.field; op = clause.op; value = clause.value; or = clause.or } ≡ clause
-clause_is clause = refl
-
 pub clause_again : (text : List ℕ) (clause : Clause) (rest : List ℕ) → SpellsClause text clause → Stops is_quote rest → clause_at clause.or (text ++ rest) ≡ Ok (clause, rest)
 unfolding clause_at
 clause_again text clause rest h stops =

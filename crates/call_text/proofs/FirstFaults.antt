@@ -1,5 +1,5 @@
 -- The first fault of a line, and its cause.
-use Rattle.std.proofs.Common.{◌≡◌, ℕ, Bool, true, false, cond, nat_lt, List, [], ◌∷◌, ◌++◌, length, Result, Ok, Err, refl, sym, ap, subst, ◌∙◌, append_assoc, arith}
+use Rattle.std.proofs.Common.{◌≡◌, ℕ, Bool, true, false, cond, nat_lt, List, [], ◌∷◌, ◌++◌, length, Result, Ok, Err, refl, sym, ap, subst, ◌∙◌, append_assoc, arith, append-nil, ap₂}
 use Rattle.std.specs.List.{list_all, take_while}
 use Rattle.std.proofs.lemmas.Bool.{ltb-false, ltb-true}
 use Rattle.std.proofs.lemmas.List.Folds.{list_all-append}
@@ -9,7 +9,7 @@ use Rattle.call_text.specs.declared.line.Line.{Line}
 use Rattle.call_text.specs.declared.line.Line.TheVariants as lines
 use Rattle.call_text.specs.Printing.{is_printable}
 use Rattle.call_text.specs.Words.{is_blank, past, is_silent}
-use Rattle.call_text.specs.Faults.{Begins, EndsAt, HasWrongCount, HasFault, IsBadBy, IsCaused}
+use Rattle.call_text.specs.Faults.{Begins, EndsAt, FirstFault, is_open, IsWrongCount, HasFault, IsBadBy, IsCaused}
 use Rattle.call_text.specs.Reading.{cause_of, form_at, line_or_cause, line_of}
 use Rattle.call_text.proofs.Runs.{Stops}
 use Rattle.call_text.proofs.ValuesPrinted.{Prints}
@@ -23,7 +23,8 @@ use Rattle.call_text.proofs.FormWalks.{form_walk}
 use Rattle.call_text.proofs.Fronts.{is_live, run_append}
 use Rattle.call_text.proofs.Finishing.{finishes}
 use Rattle.call_text.proofs.Verdicts.{odd, goes_as_far, cause_some, never_a_line, value_verdict, other_verdict}
-use Rattle.call_text.proofs.WrongCounts.{wrong_read, wrong_found}
+use Rattle.call_text.proofs.WrongCounts.{HasWrongCount, wrong_read, wrong_found}
+use Rattle.call_text.proofs.FaultsAtCounts.{begins_front, wrong_at, wrong_at_fault}
 
 abbrev start : State
 start = at at_first
@@ -81,21 +82,22 @@ fault_found text fault prints e =
     let s = goes_as_far start text refl in
     let shown : Prints s.front = (prints_parts s.front s.rest text s.whole prints).0 in
     let judged : judge (run start s.front) s.rest ≡ cause_of fault = sym (judge_append s.front s.rest) ∙ ap (judge start) (sym s.whole) ∙ form_walk text prints ∙ ap (λ (r : Result Line Fault). then r none_left) e in
+    let first : FirstFault text s.front s.rest = record { whole = s.whole; begins = begins_so s.front shown s.live; longest = longest_so s.front s.rest s.live s.stops } in
     record {
       front = s.front;
       rest = s.rest;
-      fault = record { whole = s.whole; begins = begins_so s.front shown s.live; longest = longest_so s.front s.rest s.live s.stops };
+      fault = first;
       cause_is = record {
         open_value = λ open_is. sym judged ∙ value_verdict (run start s.front) s.rest (s.quotes ∙ ap (λ (v : Bool). odd v false) open_is) s.stops;
-        wrong_count = λ wrong. err_is fault faults.Count text e (wrong_read text wrong);
-        else_form = λ shut none_wrong. form_left fault e (λ k. other_verdict (run start s.front) s.rest s.live (s.quotes ∙ ap (λ (v : Bool). odd v false) shut) s.stops (judged ∙ k)) none_wrong;
+        wrong_count = λ wrong. err_is fault faults.Count text e (ap form_at s.whole ∙ wrong_read (s.front ++ s.rest) (wrong_at s.front s.rest wrong));
+        else_form = λ shut none_wrong. form_left fault s.front s.rest first e (λ k. other_verdict (run start s.front) s.rest s.live (s.quotes ∙ ap (λ (v : Bool). odd v false) shut) s.stops (judged ∙ k)) none_wrong;
       };
     }
   where
-    form_left : (fault : Fault) → form_at text ≡ Err fault → (cause_of fault ≡ 4 → ⊥) → (HasWrongCount text → ⊥) → cause_of fault ≡ 3
-    form_left faults.Form e no_four none_wrong = refl
-    form_left faults.Value e no_four none_wrong = absurd (no_four refl)
-    form_left faults.Count e no_four none_wrong = absurd (none_wrong (wrong_found text prints e))
+    form_left : (fault : Fault) (front rest : List ℕ) → FirstFault text front rest → form_at text ≡ Err fault → (cause_of fault ≡ 4 → ⊥) → (IsWrongCount front rest → ⊥) → cause_of fault ≡ 3
+    form_left faults.Form front rest first e no_four none_wrong = refl
+    form_left faults.Value front rest first e no_four none_wrong = absurd (no_four refl)
+    form_left faults.Count front rest first e no_four none_wrong = absurd (none_wrong (wrong_at_fault text front rest prints first (wrong_found text prints e)))
 
 -- ---- the line
 
@@ -125,3 +127,57 @@ line_caused text (lines.Call call) e = tt
 line_caused text (lines.Open request) e = tt
 line_caused text (lines.Reorg part command) e = tt
 line_caused text (lines.Bad cause) e = bad_by text cause e
+
+-- ---- one cause
+
+-- a text has one longest front
+same_front : (before a b : List ℕ) (r t : List ℕ) → a ++ r ≡ b ++ t → Begins (before ++ a) → EndsAt (before ++ a) r → Begins (before ++ b) → EndsAt (before ++ b) t → a ≡ b
+same_front before [] [] r t e begins_a ends_a begins_b ends_b = refl
+same_front before [] (y ∷ b) r t e begins_a ends_a begins_b ends_b = absurd ((subst (EndsAt (before ++ [])) e ends_a) (further before y b begins_b))
+  where
+    further : (before : List ℕ) (y : ℕ) (b : List ℕ) → Begins (before ++ (y ∷ b)) → Begins ((before ++ []) ++ y ∷ [])
+    further before y b h = subst (λ (f : List ℕ). Begins (f ++ y ∷ [])) (sym (append-nil before)) (begins_front before y b h)
+same_front before (x ∷ a) [] r t e begins_a ends_a begins_b ends_b = absurd ((subst (EndsAt (before ++ [])) (sym e) ends_b) (further before x a begins_a))
+  where
+    further : (before : List ℕ) (y : ℕ) (b : List ℕ) → Begins (before ++ (y ∷ b)) → Begins ((before ++ []) ++ y ∷ [])
+    further before y b h = subst (λ (f : List ℕ). Begins (f ++ y ∷ [])) (sym (append-nil before)) (begins_front before y b h)
+same_front before (x ∷ a) (y ∷ b) r t e begins_a ends_a begins_b ends_b =
+    let heads : x ≡ y = cc in
+    let tails : a ++ r ≡ b ++ t = cc in
+    let move_a : before ++ (x ∷ a) ≡ (before ++ x ∷ []) ++ a = sym (append_assoc before (x ∷ []) a) in
+    let move_b : before ++ (y ∷ b) ≡ (before ++ x ∷ []) ++ b = sym (ap (λ (z : ℕ). (before ++ z ∷ []) ++ b) heads ∙ append_assoc before (y ∷ []) b) in
+    ap₂ (λ (z : ℕ) (w : List ℕ). z ∷ w) heads (same_front (before ++ x ∷ []) a b r t tails (subst Begins move_a begins_a) (subst (λ (f : List ℕ). EndsAt f r) move_a ends_a) (subst Begins move_b begins_b) (subst (λ (f : List ℕ). EndsAt f t) move_b ends_b))
+
+not_count : (text : List ℕ) (fault : Fault) → (cause_of fault ≡ 5 → ⊥) → form_at text ≡ Err fault → form_at text ≡ Err faults.Count → ⊥
+not_count text fault other is e = other (err_is fault faults.Count text is e)
+
+same_fault : (text : List ℕ) (a b : ℕ) → Prints text → HasFault text a → HasFault text b → a ≡ b
+same_fault text a b prints first second = by_case (is_open first.front) refl
+  where
+    fronts : first.front ≡ second.front
+    fronts = same_front [] first.front second.front first.rest second.rest (sym first.fault.whole ∙ second.fault.whole) first.fault.begins first.fault.longest second.fault.begins second.fault.longest
+
+    counted : HasWrongCount text → a ≡ b
+    counted h = first.cause_is.wrong_count (wrong_at_fault text first.front first.rest prints first.fault h) ∙ sym (second.cause_is.wrong_count (wrong_at_fault text second.front second.rest prints second.fault h))
+
+    -- neither front is at a wrong count where the text isn't read as one
+    formed : is_open first.front ≡ false → (form_at text ≡ Err faults.Count → ⊥) → a ≡ b
+    formed shut never = first.cause_is.else_form shut (λ h. never (ap form_at first.fault.whole ∙ wrong_read (first.front ++ first.rest) (wrong_at first.front first.rest h))) ∙ sym (second.cause_is.else_form (ap is_open (sym fronts) ∙ shut) (λ h. never (ap form_at second.fault.whole ∙ wrong_read (second.front ++ second.rest) (wrong_at second.front second.rest h))))
+
+    shut_case : is_open first.front ≡ false → (read : Result Line Fault) → form_at text ≡ read → a ≡ b
+    shut_case shut (Ok line) is = formed shut (λ e. (let no_way : Ok line ≡ Err faults.Count = sym is ∙ e in absurd cc))
+    shut_case shut (Err faults.Form) is = formed shut (λ e. not_count text faults.Form (λ k. absurd cc) is e)
+    shut_case shut (Err faults.Value) is = formed shut (λ e. not_count text faults.Value (λ k. absurd cc) is e)
+    shut_case shut (Err faults.Count) is = counted (wrong_found text prints is)
+
+    by_case : (v : Bool) → is_open first.front ≡ v → a ≡ b
+    by_case true e = first.cause_is.open_value e ∙ sym (second.cause_is.open_value (ap is_open (sym fronts) ∙ e))
+    by_case false e = shut_case e (form_at text) refl
+
+pub one_bad_cause : (text : List ℕ) (a b : ℕ) → IsBadBy text a → IsBadBy text b → a ≡ b
+one_bad_cause text a b first second = by_case (nat_lt 8192 (length text)) (list_all is_printable text) refl refl
+  where
+    by_case : (l p : Bool) → nat_lt 8192 (length text) ≡ l → list_all is_printable text ≡ p → a ≡ b
+    by_case true p hl hp = first.too_long (ltb-true 8192 (length text) hl) ∙ sym (second.too_long (ltb-true 8192 (length text) hl))
+    by_case false true hl hp = same_fault text a b hp (first.first_fault (ltb-false 8192 (length text) hl) hp) (second.first_fault (ltb-false 8192 (length text) hl) hp)
+    by_case false false hl hp = first.odd_byte (ltb-false 8192 (length text) hl) hp ∙ sym (second.odd_byte (ltb-false 8192 (length text) hl) hp)

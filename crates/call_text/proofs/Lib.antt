@@ -1,6 +1,7 @@
 pub mod Again
 pub mod ClausesAgain
 pub mod ClausesTaken
+pub mod FaultsAtCounts
 pub mod Finishing
 pub mod FirstFaults
 pub mod FormWalks

@@ -23,10 +23,6 @@ pub front_more : {A : Type 0} (front : List A) (a : A) (read : Result (List A ×
 front_more {A = A} front a (Ok x) = ap (λ (xs : List A). Ok (xs, x.1)) (simp append_assoc)
 front_more front a (Err f) = refl
 
-pub front_none : {A : Type 0} (read : Result (List A × List ℕ) Fault) → with_front [] read ≡ read
-front_none (Ok x) = refl
-front_none (Err f) = refl
-
 pub front_all : {A : Type 0} (front : List A) (rest : List ℕ) → with_front front (Ok ([], rest)) ≡ Ok (front, rest)
 front_all {A = A} front rest = ap (λ (xs : List A). Ok (xs, rest)) (append-nil front)
 

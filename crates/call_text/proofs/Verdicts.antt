@@ -210,9 +210,8 @@ bad_four fault is e = let no_way : cause_of faults.Form ≡ 4 = sym (ap cause_of
 plain_verdict : (kind : Kind) (w rest : List ℕ) → IsPlain kind → Stops (λ b. is_live (word_step kind w b)) rest → judge (within kind w) rest ≡ 4 → ⊥
 plain_verdict kind w [] h stops e = not_four (fits kind w) (ends (after kind (map upper w))) (cause_of (bad kind w)) (shut_ends (after kind (map upper w)) (after_shut kind (map upper w))).0 (bad_four (bad kind w) (h.bad_is w)) e
 plain_verdict kind w (b ∷ rest) h stops e =
-    let is = out_verdict faults.Form (word_step kind w b) rest (word_out kind w b h) stops in
-    let no_way : 3 ≡ 4 = sym is ∙ e in
-    absurd cc
+    let is : judge (word_step kind w b) rest ≡ cause_of faults.Form = out_verdict faults.Form (word_step kind w b) rest (word_out kind w b h) stops in
+    bad_four faults.Form refl (sym is ∙ e)
 
 count_verdict : (w rest : List ℕ) → judge (within a_count w) rest ≡ 4 → ⊥
 count_verdict w rest e = not_four (fits a_count word) (judge (at at_end) left) (cause_of (bad a_count word)) (λ k. not_four (is_end left) 0 3 (λ h. absurd cc) (λ h. absurd cc) (sym (end_walk left) ∙ k)) (bad_cause (is_number word)) (sym (word_run a_count w rest) ∙ e)

@@ -15,8 +15,8 @@ use Rattle.call_text.specs.declared.line.Line.{Line}
 use Rattle.call_text.specs.declared.line.Line.TheVariants as lines
 use Rattle.call_text.specs.declared.line.Command.{Command}
 use Rattle.call_text.specs.declared.line.Command.TheVariants.{Step}
-use Rattle.call_text.specs.Spelling.{IsRoom, SpellsName}
-use Rattle.call_text.specs.Faults.{EndsWord, HasWrongCount}
+use Rattle.call_text.specs.Spelling.{IsGap, IsRoom, SpellsName}
+use Rattle.call_text.specs.Faults.{EndsWord}
 use Rattle.call_text.specs.Reading.{◌>>=◌, name_at, is_end, call_at, open_at, count_at, plain_command, or_form, command_at, reorg_at, form_at}
 use Rattle.call_text.proofs.Stopping.{other_byte, stops_run, stops_room}
 use Rattle.call_text.proofs.Again.{name_again, past_gap}
@@ -214,6 +214,30 @@ no_five (dead faults.Count) h e = absurd cc
 no_five over h e = absurd cc
 
 -- ---- a wrong count is read as one
+
+-- in the place of a step's count a word of digits alone that is none
+pub record HasWrongCount (text : List ℕ) : Type 0 where
+  pub gap : List ℕ
+  pub word : List ℕ
+  pub first : List ℕ
+  pub verb : List ℕ
+  pub second : List ℕ
+  pub name : List ℕ
+  pub part : List ℕ
+  pub third : List ℕ
+  pub digits : List ℕ
+  pub rest : List ℕ
+  pub whole : text ≡ gap ++ (word ++ (first ++ (verb ++ (second ++ (name ++ (third ++ (digits ++ rest)))))))
+  pub gap_is : IsGap gap
+  pub word_is : SpellsName word (codes "REORG")
+  pub first_is : IsRoom first
+  pub verb_is : SpellsName verb (codes "STEP")
+  pub second_is : IsRoom second
+  pub name_is : SpellsName name part
+  pub third_is : IsRoom third
+  pub number : is_number digits ≡ true
+  pub wrong : is_count digits ≡ false
+  pub ended : EndsWord rest
 
 stops_of : (rest : List ℕ) → EndsWord rest → Stops in_word rest
 stops_of [] h = tt

@@ -39,8 +39,9 @@ abbrev pub EndsWord : List ℕ → Type 0
 EndsWord [] = Unit {0}
 EndsWord (b ∷ rest) = in_word b ≡ false
 
--- in the place of a step's count a word of digits alone that is none
-pub record HasWrongCount (text : List ℕ) : Type 0 where
+-- the front ends within or behind a word of digits alone in the place of a step's count that is none: `begun` of
+-- it stands before the fault, and `left` behind
+pub record IsWrongCount (front rest : List ℕ) : Type 0 where
   pub gap : List ℕ
   pub word : List ℕ
   pub first : List ℕ
@@ -49,9 +50,11 @@ pub record HasWrongCount (text : List ℕ) : Type 0 where
   pub name : List ℕ
   pub part : List ℕ
   pub third : List ℕ
-  pub digits : List ℕ
-  pub rest : List ℕ
-  pub whole : text ≡ gap ++ (word ++ (first ++ (verb ++ (second ++ (name ++ (third ++ (digits ++ rest)))))))
+  pub begun : List ℕ
+  pub left : List ℕ
+  pub behind : List ℕ
+  pub whole : front ≡ (gap ++ (word ++ (first ++ (verb ++ (second ++ (name ++ third)))))) ++ begun
+  pub goes_on : rest ≡ left ++ behind
   pub gap_is : IsGap gap
   pub word_is : SpellsName word (codes "REORG")
   pub first_is : IsRoom first
@@ -59,21 +62,21 @@ pub record HasWrongCount (text : List ℕ) : Type 0 where
   pub second_is : IsRoom second
   pub name_is : SpellsName name part
   pub third_is : IsRoom third
-  pub number : is_number digits ≡ true
-  pub wrong : is_count digits ≡ false
-  pub ended : EndsWord rest
+  pub number : is_number (begun ++ left) ≡ true
+  pub wrong : is_count (begun ++ left) ≡ false
+  pub ended : EndsWord behind
 
 -- 4 within a value, 5 at a wrong count, 3 elsewhere
-pub record HasCause (text front : List ℕ) (cause : ℕ) : Type 0 where
+pub record HasCause (front rest : List ℕ) (cause : ℕ) : Type 0 where
   pub open_value : is_open front ≡ true → cause ≡ 4
-  pub wrong_count : HasWrongCount text → cause ≡ 5
-  pub else_form : is_open front ≡ false → (HasWrongCount text → ⊥) → cause ≡ 3
+  pub wrong_count : IsWrongCount front rest → cause ≡ 5
+  pub else_form : is_open front ≡ false → (IsWrongCount front rest → ⊥) → cause ≡ 3
 
 pub record HasFault (text : List ℕ) (cause : ℕ) : Type 0 where
   pub front : List ℕ
   pub rest : List ℕ
   pub fault : FirstFault text front rest
-  pub cause_is : HasCause text front cause
+  pub cause_is : HasCause front rest cause
 
 -- the cause of a bad line
 pub record IsBadBy (text : List ℕ) (cause : ℕ) : Type 0 where

@@ -6,7 +6,7 @@ ghost use Rattle.call_text.specs.Printed.{HasForm};
 ghost use Rattle.call_text.specs.Words.{past, in_word, is_reserved, is_silent};
 ghost use Rattle.call_text.specs.declared.line.Line.{Line};
 ghost use Rattle.call_text.specs.Spelling.{Spells};
-ghost use Rattle.call_text.specs.Faults.{IsCaused};
+ghost use Rattle.call_text.specs.Faults.{IsBadBy, IsCaused};
 ghost use Rattle.call_text.specs.Reading.{Gives, given_at, call_at, session_at, index_at, open_at, plain_command, command_at, reorg_at, form_at, cause_of, line_of};
 
 use crate::fault::{Fault, ReadError};
@@ -213,4 +213,9 @@ pub fn read_line(alloc: Global, line: &[u8]) -> Result<Line, Memory>
 /// A text spells one line at most.
 pub fn one_reading()
     ensures { (text : List ℕ) (first second : Line) → Spells text first → Spells text second → first ≡ second }
+{}
+
+/// A line has one cause at most.
+pub fn one_cause()
+    ensures { (text : List ℕ) (first second : ℕ) → IsBadBy text first → IsBadBy text second → first ≡ second }
 {}
