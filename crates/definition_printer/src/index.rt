@@ -52,11 +52,7 @@ fn put_subseq(out: &mut Bytes, fields: &[Field]) -> Result<(), Memory>
 }
 
 #[tactic(auto, unfolding(crate::specs::Dbd::indexed_field))]
-fn put_indexed_field(
-    statement: &mut Bytes,
-    types: &[SegType],
-    i: &IndexDef,
-) -> Result<(), Memory>
+fn put_indexed_field(statement: &mut Bytes, types: &[SegType], i: &IndexDef) -> Result<(), Memory>
     ensures { OnOk result (statement.new ≡ statement.old ++ indexed_field types.now i.now) }
 {
     statement.append(i.xdfld.as_slice())?;
@@ -76,12 +72,7 @@ fn put_child(alloc: Global, out: &mut Bytes, i: &IndexDef) -> Result<(), Memory>
     put_wrapped(out, statement.as_slice())
 }
 
-fn put_field(
-    alloc: Global,
-    out: &mut Bytes,
-    types: &[SegType],
-    i: &IndexDef,
-) -> Result<(), Memory>
+fn put_field(alloc: Global, out: &mut Bytes, types: &[SegType], i: &IndexDef) -> Result<(), Memory>
     ensures { OnOk result (out.new ≡ out.old ++ wrapped (xdfld_statement types.now i.now)) }
 {
     let mut statement = Bytes::from_slice(alloc, b"XDFLD NAME=")?;
@@ -89,12 +80,7 @@ fn put_field(
     put_wrapped(out, statement.as_slice())
 }
 
-fn put_index(
-    alloc: Global,
-    out: &mut Bytes,
-    types: &[SegType],
-    i: &IndexDef,
-) -> Result<(), Memory>
+fn put_index(alloc: Global, out: &mut Bytes, types: &[SegType], i: &IndexDef) -> Result<(), Memory>
     ensures { OnOk result (out.new ≡ out.old ++ index_text types.now i.now) }
 {
     put_child(alloc, out, i)?;

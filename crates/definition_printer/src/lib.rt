@@ -11,6 +11,3 @@ mod wrap;
 
 pub use dbd::print_dbd;
 pub use partitions::print_partitions;
-
-#[cfg(test)]
-mod tests;

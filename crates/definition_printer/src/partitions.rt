@@ -44,12 +44,7 @@ fn put_text_line(out: &mut Bytes, key: &[u8], text: &[u8]) -> Result<(), Memory>
 }
 
 #[tactic(auto, unfolding(crate::specs::Partitions::number_line))]
-fn put_number_line(
-    alloc: Global,
-    out: &mut Bytes,
-    key: &[u8],
-    number: u32,
-) -> Result<(), Memory>
+fn put_number_line(alloc: Global, out: &mut Bytes, key: &[u8], number: u32) -> Result<(), Memory>
     ensures { OnOk result (out.new ≡ out.old ++ number_line key.now number) }
 {
     out.append(key)?;

@@ -1,11 +1,10 @@
 -- The document that the lines of the canonical partition file make.
-use Rattle.std.proofs.Common.{◌≡◌, ℕ, suc, ◌+◌, ◌<◌, ◌≤◌, ◌^◌, Bool, true, false, ◌==◌, pos, List, [], ◌∷◌, ◌++◌, length, codes, flat_map, Option, Some, None, Result, Ok, refl, sym, ap, ◌∙◌, arith}
+use Rattle.std.proofs.Common.{◌≡◌, ℕ, suc, ◌<◌, ◌^◌, pos, List, [], ◌∷◌, ◌++◌, length, codes, flat_map, Some, refl, sym, ap, ◌∙◌, arith}
 use Rattle.std.specs.List.{AllByRecursion}
-use Rattle.toml_parser.specs.Lexical.{first, skip_blank}
 use Rattle.toml_writer.specs.Text.{key_text}
 use Rattle.toml.specs.Data.{Data, string, integer, array, table, Items, no_items, item, Members, no_members, member, push_item}
-use Rattle.toml.specs.Tables.{Node, value, open_array, Nodes, no_nodes, node, close, Document, Expression, key_value, array_table, at_key, along_dots, along_header, define}
-use Rattle.toml.specs.Parse.{lines, skip_bom, parse_document}
+use Rattle.toml.specs.Tables.{value, open_array, Nodes, no_nodes, node, close, Document, Expression, key_value, array_table, at_key, along_dots, along_header, define}
+use Rattle.toml.specs.Parse.{skip_bom, parse_document}
 use Rattle.toml.proofs.Turns.{document_some}
 use Rattle.toml.proofs.ReadLines.{run, AllPrinted}
 use Rattle.toml.proofs.ReadValues.{item_join, item_join-none, item_join-push}

@@ -1,16 +1,14 @@
 -- High keys and names in quotes, as they are written and read.
-use Rattle.std.proofs.Common.{◌≡◌, ℕ, zero, suc, ◌+◌, ◌-◌, ◌/◌, ◌%◌, ◌<◌, ◌≤◌, Bool, true, false, cond, not, ◌&&◌, ◌||◌, ◌==◌, nat_le, nat_lt, List, [], ◌∷◌, ◌++◌, length, take, drop, map, codes, slice_index, get_or, Option, Some, None, Result, Ok, Err, refl, sym, ap, ◌∙◌, arith, length-append}
-use Rattle.std.proofs.lemmas.Bool.{and_parts, cases_Bool, lt-ltb}
+use Rattle.std.proofs.Common.{◌≡◌, ℕ, suc, ◌-◌, ◌/◌, ◌%◌, ◌<◌, Bool, true, false, ◌&&◌, ◌==◌, nat_le, nat_lt, List, [], ◌∷◌, ◌++◌, length, map, codes, slice_index, Some, Ok, refl, ap, arith, length-append}
+use Rattle.std.proofs.lemmas.Bool.{and_parts, lt-ltb}
 use Rattle.std.proofs.lemmas.Bool.Decides.{nat_tests}
-use Rattle.std.proofs.lemmas.Option.{same_Some}
 use Rattle.std.proofs.Math.Seq.{take-append_seam, get_or-append_seam}
 use Rattle.std.specs.List.{list_all}
-use Rattle.hex.specs.Hex.{upper_digits, encode_with, encode_upper, hex_digit_value, is_hex_digit, decode_of, IsBytes}
-use Rattle.hex.proofs.HexLemmas.{IsDigits, IsDigits-upper_digits, decode_of-encode_upper}
-use Rattle.hal_base.specs.Name.{upper, is_digit, is_name_letter, is_name_byte, is_name}
-use Rattle.dbd_reader.specs.declared.fault.TextFault.{TextFault}
+use Rattle.hex.specs.Hex.{upper_digits, encode_with, encode_upper, hex_digit_value, IsBytes}
+use Rattle.hex.proofs.HexLemmas.{IsDigits-upper_digits, decode_of-encode_upper}
+use Rattle.hal_base.specs.Name.{upper, is_name_letter, is_name_byte, is_name}
 use Rattle.definition_printer.specs.Partitions.{is_plain, high_text}
-use Rattle.partition_reader.specs.Values.{is_printable, begins_hex, before_quote, some_bytes, bytes_in, key_of}
+use Rattle.partition_reader.specs.Values.{is_printable, begins_hex, before_quote, key_of}
 use Rattle.definition_text.proofs.Quoted.{is_simple, IsSimple, simple_append}
 
 pub all_imply : (p q : ℕ → Bool) → ((b : ℕ) → p b ≡ true → q b ≡ true) → (s : List ℕ) → list_all p s ≡ true → list_all q s ≡ true

@@ -6,3 +6,4 @@ pub mod PartValues
 pub mod Quoted
 pub mod ReadText
 pub mod ReadBack
+pub mod Rebuilt

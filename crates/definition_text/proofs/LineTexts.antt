@@ -1,12 +1,12 @@
 -- The lines of a partition file are lines as TOML's printer writes them.
-use Rattle.std.proofs.Common.{◌≡◌, ℕ, ◌+◌, ◌<◌, ◌^◌, Bool, true, false, pos, List, [], ◌∷◌, ◌++◌, codes, decimal, refl, sym, ap, ◌∙◌, arith, append_assoc}
+use Rattle.std.proofs.Common.{◌≡◌, ℕ, ◌<◌, ◌^◌, false, pos, List, [], codes, decimal, refl, arith, append_assoc}
 use Rattle.std.specs.Prelude.{FitsSigned}
 use Rattle.std.specs.Int.{w64}
 use Rattle.std.proofs.Math.Facts.{sfits_lit, yes_ltb}
 use Rattle.toml_writer.specs.Text.{string_text, key_text}
 use Rattle.toml.specs.Data.{string, integer}
 use Rattle.toml.specs.Tables.{key_value, array_table}
-use Rattle.toml.specs.Text.{IsValueText, IsLineText}
+use Rattle.toml.specs.Text.{IsLineText}
 use Rattle.definition_printer.specs.Partitions.{text_line, number_line, table_line}
 use Rattle.definition_text.proofs.Quoted.{IsSimple, string_text-simple}
 

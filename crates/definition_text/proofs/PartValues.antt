@@ -1,13 +1,12 @@
 -- What the tables of the canonical partition file say.
-use Rattle.std.proofs.Common.{◌≡◌, ℕ, ◌+◌, ◌<◌, ◌^◌, Bool, true, false, nat_lt, pos, List, [], ◌∷◌, ◌++◌, length, codes, Result, Ok, Err, Some, None, refl, sym, ap, ◌∙◌, arith}
+use Rattle.std.proofs.Common.{◌≡◌, ℕ, ◌<◌, ◌^◌, true, pos, List, [], ◌∷◌, codes, Ok, refl}
 use Rattle.std.proofs.lemmas.Bool.{lt-ltb}
 use Rattle.std.specs.List.{AllByRecursion}
-use Rattle.toml.specs.Data.{Data, string, integer, array, table, Items, no_items, item, Members, no_members, member}
+use Rattle.toml.specs.Data.{string, integer, array, table, Items, no_items, item, Members, no_members, member}
 use Rattle.toml.specs.Text.{are_tables}
 use Rattle.hal_base.specs.Name.{is_name}
 use Rattle.hal_schema.specs.declared.schema.PartDef.{PartDef}
 use Rattle.hal_schema.specs.declared.schema.Schema.{Schema}
-use Rattle.dbd_reader.specs.declared.fault.TextFault.{TextFault}
 use Rattle.definition_printer.specs.Partitions.{high_text}
 use Rattle.partition_reader.specs.Values.{number_in, name_in, high_in}
 use Rattle.partition_reader.specs.Tables.{next_place, part_of, parts_from, parts_of}

@@ -1,11 +1,10 @@
 -- Texts without quotes, backslashes and control bytes stand in TOML as they are, in quotes.
-use Rattle.std.proofs.Common.{◌≡◌, ℕ, ◌+◌, Bool, true, false, not, ◌&&◌, ◌||◌, ◌==◌, nat_le, List, [], ◌∷◌, ◌++◌, length, refl, sym, ap, ◌∙◌, arith}
+use Rattle.std.proofs.Common.{◌≡◌, ℕ, Bool, true, false, not, ◌&&◌, ◌==◌, nat_le, List, [], ◌∷◌, ◌++◌, refl, ap, arith}
 use Rattle.std.proofs.lemmas.Bool.{and_parts}
 use Rattle.std.proofs.lemmas.Bool.Decides.{nat_tests}
 use Rattle.std.proofs.lemmas.List.Folds.{list_all-append}
 use Rattle.std.specs.List.{list_all, list_any}
-use Rattle.toml_parser.specs.Lexical.{is_non_eol}
-use Rattle.toml_writer.specs.Text.{basic, encoded, encoding_of, string_text, escaped, has, is_control, needs_escape, quotes_after}
+use Rattle.toml_writer.specs.Text.{basic, encoding_of, string_text, escaped, is_control, needs_escape, quotes_after}
 
 -- printable, and no quote and no backslash
 abbrev pub is_simple : ℕ → Bool

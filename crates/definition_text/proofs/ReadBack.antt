@@ -1,5 +1,5 @@
 -- The canonical partition file reads as the raw definitions of the schema's partitions.
-use Rattle.std.proofs.Common.{◌≡◌, List, Ok}
+use Rattle.std.proofs.Common.{◌≡◌, Ok}
 use Rattle.hal_schema.specs.declared.schema.Schema.{Schema}
 use Rattle.definition_printer.specs.Partitions.{partitions_text}
 use Rattle.partition_reader.specs.Partitions.{toml_of, partitions_of}

@@ -1,14 +1,14 @@
 -- A text of such lines reads as their expressions, one after the other.
-use Rattle.std.proofs.Common.{◌≡◌, ℕ, suc, ◌+◌, ◌-◌, ◌<◌, ◌≤◌, Bool, true, false, ◌==◌, List, [], ◌∷◌, ◌++◌, length, Option, Some, None, option_and_then, refl, sym, ap, ◌∙◌, arith, append_assoc, append-nil, length-append}
+use Rattle.std.proofs.Common.{◌≡◌, ℕ, ◌-◌, ◌<◌, true, false, ◌==◌, List, [], ◌∷◌, ◌++◌, length, Option, Some, None, option_and_then, refl, sym, ap, ◌∙◌, arith, append_assoc, append-nil}
 use Rattle.std.proofs.lemmas.Bool.Decides.{nat_tests}
-use Rattle.toml_parser.specs.Lexical.{first, skip_blank}
+use Rattle.toml_parser.specs.Lexical.{skip_blank}
 use Rattle.toml_parser.proofs.LexicalLemmas.{skip_from-nil}
-use Rattle.toml.specs.Tables.{Document, Definition, Expression, define}
+use Rattle.toml.specs.Tables.{Document, Expression, define}
 use Rattle.toml.specs.Parse.{line, lines}
 use Rattle.toml.specs.Text.{IsLineText}
 use Rattle.toml.proofs.Turns.{lines_end, lines_more, lines_refused}
 use Rattle.toml.proofs.Blanks.{skip_newline, skip_within}
-use Rattle.toml.proofs.ReadLines.{run, IsPrinted, AllPrinted, line_turn}
+use Rattle.toml.proofs.ReadLines.{run, AllPrinted, line_turn}
 
 -- the text writes these expressions, each on a line, with no empty line between
 abbrev pub WritesLines : List Expression → List ℕ → Type 0

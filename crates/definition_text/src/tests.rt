@@ -45,22 +45,31 @@ const KDB_PARTS: &str =
 
 #[test]
 fn kdb_prints_as_itself(rt: HostRuntime) -> Result<(), Fail> {
-    let text = format!(in rt.alloc(); "{KDB}blocks = 40\n[[partition]]\nname = \"P2\"\nnumber = 2\nhigh = \"999\"\n[[partition]]\nname = \"p1\"\nnumber = 1\nhigh = \"X'353030'\"\n")?;
+    let text = format!(in rt.alloc();
+        "{KDB}blocks = 40\n[[partition]]\nname = \"P2\"\nnumber = 2\nhigh = \"999\"\n[[partition]]\nname = \"p1\"\nnumber = 1\nhigh = \"X'353030'\"\n"
+    )?;
     let canonical = format!(in rt.alloc(); "{KDB}{KDB_PARTS}")?;
-    assert_eq!(rt; prints(&rt, text.as_str())?.as_slice(), canonical.as_bytes());
+    assert_eq!(rt;
+        prints(&rt, text.as_str())?.as_slice(),
+        canonical.as_bytes()
+    );
     Ok(())
 }
 
 #[test]
 fn an_index_stands_behind_the_fields_of_its_target(rt: HostRuntime) -> Result<(), Fail> {
-    let head = "DBD NAME=KXDB,ACCESS=(PHIDAM)\nSEGM NAME=R,PARENT=0,BYTES=5,RULES=(,LAST),DSGROUP=A\n";
+    let head =
+        "DBD NAME=KXDB,ACCESS=(PHIDAM)\nSEGM NAME=R,PARENT=0,BYTES=5,RULES=(,LAST),DSGROUP=A\n";
     let field = "FIELD NAME=(K,SEQ,U),BYTES=3,START=1,TYPE=C\n";
     let index = "LCHILD NAME=(VX,VDB),PTR=INDX\nXDFLD NAME=XV,SEGMENT=R,SRCH=(V)\n";
     let value = "FIELD NAME=V,BYTES=2,START=4,TYPE=C\n";
     let end = "DBDGEN\nFINISH\nEND\n";
     let text = format!(in rt.alloc(); "{head}{field}{index}{value}{end}{KDB_PARTS}")?;
     let canonical = format!(in rt.alloc(); "{head}{field}{value}{index}{end}{KDB_PARTS}")?;
-    assert_eq!(rt; prints(&rt, text.as_str())?.as_slice(), canonical.as_bytes());
+    assert_eq!(rt;
+        prints(&rt, text.as_str())?.as_slice(),
+        canonical.as_bytes()
+    );
     Ok(())
 }
 

@@ -1,4 +1,4 @@
-ghost use Rattle.std.specs.Prelude.{◌≡◌, ◌+◌, ◌≤◌, Bool, length, OnOk, OnErr, IsErrOf, IsSomeAnd, IsTrue};
+ghost use Rattle.std.specs.Prelude.{◌≡◌, ◌+◌, ◌≤◌, Bool, false, length, OnOk, OnErr, IsErrOf, IsSomeAnd, IsTrue};
 ghost use Rattle.std.specs.Io.KnownBytes.{Appends};
 ghost use Rattle.hal_base.specs.Fault.{HasCause, HasCauseFor};
 ghost use Rattle.hal_base.specs.Room.{HasSayRoom};
@@ -24,6 +24,7 @@ pub trait Store: Blocks {
         ensures say_faults { Self.say_faults self.new ≡ Self.say_faults self.old }
         ensures room { HasSayRoom (Self.room self.old) (Self.room self.new) (Self.disk_faults self.old) (Self.disk_faults self.new) (λ room. 0 ≤ room) }
         ensures fetches { Self.fetches self.new ≡ Self.fetches self.old }
+        ensures dead { IsErrOf result JournalFault.DiskFault → Self.live self.new ≡ false }
         ensures live { (result ≡ Err JournalFault.DiskFault → ⊥) → IsTrue (Self.live self.new) };
 
     /// Goes back to the list after the last commit.

@@ -1,9 +1,9 @@
 -- Reading one partition after the other, as the loop over the tables does.
-use Rattle.std.proofs.Common.{◌≡◌, ℕ, suc, ◌+◌, ◌<◌, ◌≤◌, add-one, arith, List, [], ◌∷◌, ◌++◌, length, get_or, drop, Result, Ok, Err, refl, sym, ap, ◌∙◌, append_assoc}
+use Rattle.std.proofs.Common.{◌≡◌, ℕ, ◌+◌, ◌<◌, List, [], ◌∷◌, ◌++◌, length, get_or, drop, Result, Ok, Err, refl, sym, ap, ◌∙◌, append_assoc}
 use Rattle.std.proofs.lemmas.List.{append-nil, drop_more}
 use Rattle.toml.specs.declared.value.Value.{Value}
 use Rattle.toml.specs.View.{view, items_view}
-use Rattle.toml.specs.Data.{Data, Items, item}
+use Rattle.toml.specs.Data.{item}
 use Rattle.hal_schema.specs.declared.raw.RawPart.{RawPart}
 use Rattle.dbd_reader.specs.declared.fault.TextFault.{TextFault}
 use Rattle.dbd_reader.specs.declared.fault.TextFault.TheVariants as faults

@@ -1,13 +1,12 @@
 -- A text is TOML where it is UTF-8 and the parser takes it.
-use Rattle.std.proofs.Common.{◌≡◌, ℕ, Bool, true, false, List, Option, Some, None, Result, Err, IsUtf8, refl, sym, ap, ◌∙◌}
+use Rattle.std.proofs.Common.{◌≡◌, ℕ, Bool, true, false, List, Some, Err, IsUtf8, refl}
 use Rattle.std.proofs.lemmas.Str.{IsUtf8-from_is_utf8, is_utf8-from_IsUtf8}
 use Rattle.std.specs.Str.{is_utf8}
 use Rattle.toml.specs.Data.{Members}
 use Rattle.toml.specs.Parse.{parse_document}
-use Rattle.dbd_reader.specs.declared.fault.TextFault.{TextFault}
 use Rattle.dbd_reader.specs.declared.fault.TextFault.TheVariants.{Rule}
 use Rattle.partition_reader.specs.Tables.{parts_of}
-use Rattle.partition_reader.specs.Partitions.{toml_of, parts_or, partitions_of}
+use Rattle.partition_reader.specs.Partitions.{toml_of, partitions_of}
 
 is_not : (text : List ℕ) → ¬ (IsUtf8 text) → (b : Bool) → is_utf8 text ≡ b → is_utf8 text ≡ false
 is_not text h true e = absurd (h (IsUtf8-from_is_utf8 text e))

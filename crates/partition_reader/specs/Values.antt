@@ -1,7 +1,7 @@
 -- What the values of a partition file say, each in the table of a place: 0 is the file itself, the tables of
 -- partitions count from 1. Rule 22 is that of a key that is absent and has no default, 23 that of a value that
 -- isn't readable.
-use Rattle.std.specs.Prelude.{ℕ, ◌-◌, ◌&&◌, ◌==◌, Bool, true, false, nat_le, nat_lt, pos, if◌then◌else◌, List, [], ◌∷◌, length, map, take, drop, slice_index, Option, Some, None, Result, Ok, Err}
+use Rattle.std.specs.Prelude.{ℕ, ◌-◌, ◌&&◌, ◌==◌, Bool, false, nat_le, nat_lt, pos, if◌then◌else◌, List, ◌∷◌, length, map, take, drop, slice_index, Option, Some, None, Result, Ok, Err}
 use Rattle.std.specs.List.{list_all}
 use Rattle.hex.specs.Hex.{decode_of}
 use Rattle.hex.specs.declared.error.FromHexError.{FromHexError}

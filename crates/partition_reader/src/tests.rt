@@ -64,7 +64,11 @@ fn files_say_their_partitions(rt: HostRuntime) -> Result<(), Fail> {
             "blocks = 1\n[[partition]]\nname = \"P\"\nnumber = 1\nhigh = \"X'6a4B'\"\n[[partition]]\nname = \"P\"\nnumber = 1\nhigh = \"\"\n[[partition]]\nname = \"P\"\nnumber = 1\nhigh = \"x'41'\"",
         ),
     ] {
-        assert_eq!(rt; said(&rt, text.as_bytes())?.as_slice(), says.as_bytes(), "{text}");
+        assert_eq!(rt;
+            said(&rt, text.as_bytes())?.as_slice(),
+            says.as_bytes(),
+            "{text}"
+        );
     }
     Ok(())
 }
@@ -91,9 +95,16 @@ fn the_file_itself_is_judged_first(rt: HostRuntime) -> Result<(), Fail> {
         ("24", "blocks = 1\nBlocks = 2\n[[partition]]"),
     ] {
         let says = format!(in rt.alloc(); "rule {rule} at 0")?;
-        assert_eq!(rt; said(&rt, text.as_bytes())?.as_slice(), says.as_bytes(), "{text}");
+        assert_eq!(rt;
+            said(&rt, text.as_bytes())?.as_slice(),
+            says.as_bytes(),
+            "{text}"
+        );
     }
-    assert_eq!(rt; said(&rt, b"# \xFF\nblocks = 1")?.as_slice(), b"rule 21 at 0".as_slice());
+    assert_eq!(rt;
+        said(&rt, b"# \xFF\nblocks = 1")?.as_slice(),
+        b"rule 21 at 0".as_slice()
+    );
     Ok(())
 }
 
@@ -117,14 +128,27 @@ fn each_table_is_judged_in_the_order_of_the_rules(rt: HostRuntime) -> Result<(),
         ("23", "name = \"P\"\nnumber = 1\nhigh = \"\\t\""),
         ("23", "name = \"P\"\nnumber = 1\nhigh = \"\u{e9}\""),
         ("23", "name = \"P\"\nnumber = 1\nhigh = \"1\"\nanchors = -1"),
-        ("23", "name = \"P\"\nnumber = 1\nhigh = \"1\"\nfbff = [1]\nx = 1"),
-        ("23", "name = \"P\"\nnumber = 1\nhigh = \"1\"\nfspf = 4294967296"),
+        (
+            "23",
+            "name = \"P\"\nnumber = 1\nhigh = \"1\"\nfbff = [1]\nx = 1",
+        ),
+        (
+            "23",
+            "name = \"P\"\nnumber = 1\nhigh = \"1\"\nfspf = 4294967296",
+        ),
         ("24", "name = \"P\"\nnumber = 1\nhigh = \"1\"\nFSPF = 1"),
-        ("24", "name = \"P\"\nnumber = 1\nhigh = \"1\"\nx.y = 1\n[[partition]]"),
+        (
+            "24",
+            "name = \"P\"\nnumber = 1\nhigh = \"1\"\nx.y = 1\n[[partition]]",
+        ),
     ] {
         let text = format!(in rt.alloc(); "{head}{table}")?;
         let says = format!(in rt.alloc(); "rule {rule} at 2")?;
-        assert_eq!(rt; said(&rt, text.as_bytes())?.as_slice(), says.as_bytes(), "{table}");
+        assert_eq!(rt;
+            said(&rt, text.as_bytes())?.as_slice(),
+            says.as_bytes(),
+            "{table}"
+        );
     }
     Ok(())
 }

@@ -1,5 +1,3 @@
-use Rattle.std.proofs.Common.{sym}
-use Rattle.dbd_reader.specs.Definition.{Says}
 use Rattle.partition_reader.proofs.Whole.{no_text, a_table}
 use Rattle.partition_reader.proofs.file.read_partitions.Goals as goal
 

@@ -1,7 +1,6 @@
-use Rattle.std.proofs.Common.{rules, refl, sym, ◌∙◌}
 use Rattle.std.proofs.lemmas.List.{drop_all}
 use Rattle.std.proofs.lemmas.Result.{err_from_is_err_and}
-use Rattle.partition_reader.proofs.Parts.{parts_begin, parts_go_on, parts_fail, parts_end}
+use Rattle.partition_reader.proofs.Parts.{parts_go_on, parts_fail, parts_end}
 use Rattle.partition_reader.proofs.table.parts_of_tables.Goals as goal
 
 pub returns-in_err-part_in : goal.returns-in_err-part_in
