@@ -8,7 +8,7 @@ use Rattle.hal_desk.specs.declared.ending.Ending.{Ending}
 use Rattle.hal_desk.specs.declared.ending.Ending.TheVariants.{Done, ReadFault, DiskFault, SayFault, Memory, TooLong}
 
 -- what was taken of a text is no longer than it
-taken_within : (text taken : List ℕ) (after : Option (List ℕ)) → Consumes (Some text) after taken → length taken ≤ length text
+pub taken_within : (text taken : List ℕ) (after : Option (List ℕ)) → Consumes (Some text) after taken → length taken ≤ length text
 taken_within text taken None read = absurd read
 taken_within text taken (Some rest) read = omega (arith, ap (λ (l : List ℕ). length l) read, length-append taken rest)
 

@@ -7,3 +7,6 @@ pub mod Loops
 pub mod Numbered
 pub mod Pieces
 pub mod RootCase
+pub mod WordLemmas
+pub mod ReadDbd
+pub mod Commands

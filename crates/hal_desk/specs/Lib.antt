@@ -1,11 +1,14 @@
+pub mod Define
 pub mod FirstRoots
 pub mod Form
+pub mod Gathered
 pub mod Lines
 pub mod Names
 pub mod OneList
 pub mod Reply
 pub mod Roots
 pub mod Run
+pub mod Says
 pub mod Script
 pub mod State
 pub mod Taken

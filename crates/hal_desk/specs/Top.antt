@@ -1,12 +1,13 @@
 -- What the top call did.
-use Rattle.std.specs.Prelude.{ℕ, ◌≡◌, ◌⊎◌, List, Option, Some}
-use Rattle.std.specs.Io.KnownBytes.{Appends}
-use Rattle.hal_base.specs.Fault.{Rose}
-use Rattle.hal_base.specs.Said.{AppendsPart}
+use Rattle.std.specs.Prelude.{ℕ, ◌≡◌, ◌⊎◌, Bool, true, false, Option, None, Some, codes, ⊤}
 use Rattle.hal_desk.specs.State.{empty_state}
 use Rattle.hal_desk.specs.Run.{Told}
 use Rattle.hal_desk.specs.Script.{Outside, RanScript, status_of}
+use Rattle.hal_desk.specs.Says.{SaysLine}
+use Rattle.hal_desk.specs.Define.{RanDefine}
 use Rattle.hal_desk.specs.declared.ending.Ending.{Ending}
+use Rattle.hal_desk.specs.declared.words.Command.{Command}
+use Rattle.hal_desk.specs.declared.words.Command.TheVariants.{Define, Call}
 
 -- The script was run from the empty list on, to an ending with this status.
 pub record RanCall (before after : Outside) (status : ℕ) : Type 0 where
@@ -15,7 +16,21 @@ pub record RanCall (before after : Outside) (status : ℕ) : Type 0 where
   pub after_told : Told
   pub ran : RanScript before after (record { state = Some empty_state; free = 0 }) after_told ending
 
--- The command was refused: its line was said, with its status; or that say failed, with status 6.
-abbrev pub Refused : List ℕ → ℕ → Option (List ℕ) → Option (List ℕ) → ℕ → ℕ → ℕ → Type 0
-Refused line wanted said now faults faults_now status =
-    ((status ≡ wanted) × Appends said now line) ⊎ ((status ≡ 6) × AppendsPart said now line × Rose faults faults_now)
+-- What a command did. Words that are no command are status 1; a command that isn't built yet is status 11.
+abbrev pub Did : Option Command → Outside → Outside → ℕ → Type 0
+Did None before after status = SaysLine (codes "refused usage\n") 1 before.said after.said before.say_faults after.say_faults status
+Did (Some (Define volume)) before after status = RanDefine before after status
+Did (Some (Call volume)) before after status = RanCall before after status
+Did (Some other) before after status = SaysLine (codes "refused not built\n") 11 before.said after.said before.say_faults after.say_faults status
+
+-- whether a command reads its source
+abbrev pub reads_source : Option Command → Bool
+reads_source (Some (Define volume)) = true
+reads_source (Some (Call volume)) = true
+reads_source other = false
+
+-- how a command ends that reads its source, where nothing fails
+abbrev pub EndsWell : Option Command → ℕ → Type 0
+EndsWell (Some (Define volume)) status = (status ≡ 0) ⊎ (status ≡ 7) ⊎ (status ≡ 8)
+EndsWell (Some (Call volume)) status = (status ≡ 0) ⊎ (status ≡ 8)
+EndsWell other status = ⊤

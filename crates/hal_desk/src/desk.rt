@@ -1,10 +1,11 @@
 // The top call: words, a source and a site in, a status and the site out.
-ghost use Rattle.std.specs.Prelude.{◌≡◌, ◌≤◌, ◌⊎◌, Some, IsTrue, length, map, codes};
+ghost use Rattle.std.specs.Prelude.{◌≡◌, ◌≤◌, Some, IsTrue, length, map, codes};
 ghost use Rattle.std.specs.String.{string_bytes};
 ghost use Rattle.hal_base.specs.Fault.{Rose};
 
-use crate::{OneList, is_call, run_script};
-use hal_base::{Site, Source};
+use crate::define::define;
+use crate::{Command, OneList, read_command, run_script};
+use hal_base::{Memory, Site, Source};
 use std::alloc::Global;
 
 /// A command's exit status, and the site that it was run on.
@@ -14,32 +15,73 @@ pub struct Ended<T> {
     pub site: T,
 }
 
-ghost use Rattle.hal_desk.specs.Words.{is_call};
+ghost use Rattle.hal_desk.specs.Words.{command_of};
 ghost use Rattle.hal_desk.specs.Script.{outside, limit};
-ghost use Rattle.hal_desk.specs.Top.{RanCall, Refused};
+ghost use Rattle.hal_desk.specs.Says.{SaysLine};
+ghost use Rattle.hal_desk.specs.Top.{Did, EndsWell, RanCall, reads_source};
 
-/// Runs one command. Words that are no command are refused, and nothing is read. `call VOLUME` answers a script over
-/// one list that begins empty.
+/// Runs one command. Words that are no command are refused, and nothing is read. `define VOLUME` checks the texts of a
+/// definition; `call VOLUME` answers a script over one list that begins empty.
 pub fn run<S: Source, T: Site>(alloc: Global, words: &[String], source: &mut S, site: T) -> Ended<T>
-    // What was said is the text of a run of the script's lines from the empty list.
-    ensures call { IsTrue (is_call (map string_bytes words.now)) → RanCall
+    // What the command did, and its status. Of `call`: what was said is the text of a run of the script's lines from the
+    // empty list.
+    ensures did { Did (command_of (map string_bytes words.now))
         (outside (S.left source.old) (S.read_faults source.old) (T.said site) (T.say_faults site) 0)
         (outside (S.left source.new) (S.read_faults source.new) (T.said result.site) (T.say_faults result.site) 0)
         result.status }
 
-    // Where the source tells a text within the limit and no count rose, each line has its reply, or memory ran out.
-    ensures complete { IsTrue (is_call (map string_bytes words.now)) → (text : _) → S.left source.old ≡ Some text → length text ≤ limit
+    // Where the source tells a text within the limit and no count rose, the command ends well, or memory ran out.
+    ensures complete { (text : _) → S.left source.old ≡ Some text → length text ≤ limit
         → (Rose (S.read_faults source.old) (S.read_faults source.new) → ⊥) → (Rose (T.say_faults site) (T.say_faults result.site) → ⊥)
-        → (result.status ≡ 0) ⊎ (result.status ≡ 8) }
+        → EndsWell (command_of (map string_bytes words.now)) result.status }
 
-    ensures usage { (IsTrue (is_call (map string_bytes words.now)) → ⊥) → Refused (codes "refused usage\n") 1 (T.said site) (T.said result.site) (T.say_faults site) (T.say_faults result.site) result.status }
-    ensures unread { (IsTrue (is_call (map string_bytes words.now)) → ⊥) → source.new ≡ source.old }
+    ensures unread { (IsTrue (reads_source (command_of (map string_bytes words.now))) → ⊥) → source.new ≡ source.old }
 
     ensures later { (S.read_faults source.old ≤ S.read_faults source.new) × (T.say_faults site ≤ T.say_faults result.site) }
 {
-    if !is_call(words) {
-        return refuse(site, b"refused usage\n", 1);
+    match read_command(alloc, words) {
+        Err(Memory) => Ended { status: 8, site },
+        Ok(None) => say_line(site, b"refused usage\n", 1),
+        Ok(Some(command)) => obey(alloc, &command, source, site),
     }
+}
+
+fn obey<S: Source, T: Site>(alloc: Global, command: &Command, source: &mut S, site: T) -> Ended<T>
+    ensures did { Did (Some command.now)
+        (outside (S.left source.old) (S.read_faults source.old) (T.said site) (T.say_faults site) 0)
+        (outside (S.left source.new) (S.read_faults source.new) (T.said result.site) (T.say_faults result.site) 0)
+        result.status }
+    ensures unread { (IsTrue (reads_source (Some command.now)) → ⊥) → source.new ≡ source.old }
+    ensures later { (S.read_faults source.old ≤ S.read_faults source.new) × (T.say_faults site ≤ T.say_faults result.site) }
+{
+    match command {
+        Command::Define { .. } => define(alloc, source, site),
+        Command::Call { .. } => call(alloc, source, site),
+        Command::Load { .. } => not_built(site),
+        Command::Unload { .. } => not_built(site),
+        Command::Report { .. } => not_built(site),
+        Command::Reorg { .. } => not_built(site),
+        Command::Make { .. } => not_built(site),
+        Command::Exercise { .. } => not_built(site),
+    }
+}
+
+// A command of the table that this version doesn't have yet.
+fn not_built<T: Site>(site: T) -> Ended<T>
+    ensures says { SaysLine (codes "refused not built\n") 11 (T.said site) (T.said result.site) (T.say_faults site) (T.say_faults result.site) result.status }
+    ensures later { T.say_faults site ≤ T.say_faults result.site }
+{
+    say_line(site, b"refused not built\n", 11)
+}
+
+/// Answers the script of the source over one list.
+fn call<S: Source, T: Site>(alloc: Global, source: &mut S, site: T) -> Ended<T>
+    ensures ran { RanCall
+        (outside (S.left source.old) (S.read_faults source.old) (T.said site) (T.say_faults site) 0)
+        (outside (S.left source.new) (S.read_faults source.new) (T.said result.site) (T.say_faults result.site) 0)
+        result.status }
+    ensures later { (S.read_faults source.old ≤ S.read_faults source.new) × (T.say_faults site ≤ T.say_faults result.site) }
+{
     let mut list = OneList::new(alloc, site);
     let ending = run_script(alloc, source, &mut list);
     Ended {
@@ -48,9 +90,9 @@ pub fn run<S: Source, T: Site>(alloc: Global, words: &[String], source: &mut S, 
     }
 }
 
-// Says why a command is refused.
-fn refuse<T: Site>(mut site: T, line: &[u8], status: u8) -> Ended<T>
-    ensures refused { Refused line.now status (T.said site) (T.said result.site) (T.say_faults site) (T.say_faults result.site) result.status }
+/// Says the one line of a command.
+pub(crate) fn say_line<T: Site>(mut site: T, line: &[u8], status: u8) -> Ended<T>
+    ensures says { SaysLine line.now status (T.said site) (T.said result.site) (T.say_faults site) (T.say_faults result.site) result.status }
     ensures later { T.say_faults site ≤ T.say_faults result.site }
 {
     match site.say(line) {

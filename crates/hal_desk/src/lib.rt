@@ -1,6 +1,7 @@
 //! The top calls of haldb: a command's words, a source and a site in, a status and the site out.
 #![tactic(auto)]
 
+mod define;
 mod desk;
 mod ending;
 mod form;
@@ -8,6 +9,7 @@ mod laws;
 mod one_list;
 mod roots;
 mod script;
+mod source;
 mod taker;
 mod words;
 
@@ -19,4 +21,4 @@ pub use one_list::OneList;
 pub use roots::Roots;
 pub use script::{LIMIT, run_script};
 pub use taker::{EngineFault, LineTaker};
-pub use words::is_call;
+pub use words::{Command, read_command};

@@ -14,7 +14,7 @@ use std::alloc::Global;
 /// The most bytes that a script may have.
 pub const LIMIT: u32 = 67_108_864;
 
-const PIECE: usize = 4096;
+pub(crate) const PIECE: usize = 4096;
 
 /// The line that is being read: its bytes so far, and its number.
 #[derive(Drop)]
@@ -103,7 +103,11 @@ fn take_last<L: LineTaker>(taker: &mut L, pending: &Pending) -> Result<(), Engin
 }
 
 // Reads at most so many bytes to the front of the buffer.
-fn read_piece<S: Source>(source: &mut S, buffer: &mut [u8], most: usize) -> Result<usize, Failed>
+pub(crate) fn read_piece<S: Source>(
+    source: &mut S,
+    buffer: &mut [u8],
+    most: usize,
+) -> Result<usize, Failed>
     requires some { 0 < most }
     requires fits { most ≤ length buffer.old }
     ensures within { IfOk result (λ n. n ≤ most) }

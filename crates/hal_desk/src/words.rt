@@ -1,23 +1,196 @@
-ghost use Rattle.std.specs.Prelude.{◌≡◌, map, IsTrue, ◌↔◌};
+// The words of a command line.
+ghost use Rattle.std.specs.Prelude.{◌≡◌, IfOk, IsTrue, length, map, min};
+ghost use Rattle.std.specs.List.{list_all};
 ghost use Rattle.std.specs.String.{string_bytes};
-ghost use Rattle.hal_desk.specs.Words.{is_call, is_volume};
 
-/// Whether the words are `call VOLUME`.
-pub fn is_call(words: &[String]) -> bool
-    ensures { IsTrue result ↔ IsTrue (is_call (map string_bytes words.now)) }
+use hal_base::{Bytes, Memory};
+use std::alloc::Global;
+
+/// What the words ask for.
+#[derive(Debug, Drop)]
+pub enum Command {
+    /// Defines a volume by the texts of the source.
+    Define {
+        volume: Bytes,
+    },
+    /// Loads the rows of the source.
+    Load {
+        volume: Bytes,
+    },
+    /// Writes all rows.
+    Unload {
+        volume: Bytes,
+    },
+    /// Answers the script of the source.
+    Call {
+        volume: Bytes,
+    },
+    /// Says how each partition stands.
+    Report {
+        volume: Bytes,
+    },
+    /// Reorganizes one partition to its end. IMS: online reorganization.
+    Reorg {
+        volume: Bytes,
+        part: Bytes,
+    },
+    /// Defines and loads a made database of so many customers.
+    Make {
+        volume: Bytes,
+        count: u32,
+        number: u32,
+    },
+    /// The same, and then answers a made script.
+    Exercise {
+        volume: Bytes,
+        count: u32,
+        number: u32,
+    },
+}
+
+ghost use Rattle.hal_desk.specs.Words.{command_of, is_digit, is_word, number_of, of_count, of_part, of_volume, row_of, value_of};
+
+/// Reads the words after the program's name: none where they are no command.
+pub fn read_command(alloc: Global, words: &[String]) -> Result<Option<Command>, Memory>
+    ensures { IfOk result (λ command. command ≡ command_of (map string_bytes words.now)) }
 {
+    if !are_words(words) {
+        return Ok(None);
+    }
     match words {
-        [command, volume] => command.as_bytes() == b"call".as_slice()
-            && is_volume(volume.as_bytes()),
-        _ => false,
+        [] => Ok(None),
+        [_] => Ok(None),
+        [name, volume] => of_volume(alloc, name.as_bytes(), volume.as_bytes()),
+        [name, volume, part] => of_part(alloc, name.as_bytes(), volume.as_bytes(), part.as_bytes()),
+        [name, volume, count, number] => {
+            let count = number_of(1, 10_000, count.as_bytes());
+            let number = number_of(0, 4_294_967_295, number.as_bytes());
+            of_count(alloc, name.as_bytes(), volume.as_bytes(), count, number)
+        }
+        [_, _, _, _, _, ..] => Ok(None),
     }
 }
 
-fn is_volume(word: &[u8]) -> bool
-    ensures { result ≡ is_volume word.now }
+fn are_words(words: &[String]) -> bool
+    ensures { result ≡ list_all is_word (map string_bytes words.now) }
+{
+    for word in words {
+        if !is_word(word.as_bytes()) {
+            return false;
+        }
+    }
+    true
+}
+
+fn is_word(word: &[u8]) -> bool
+    ensures { result ≡ is_word word.now }
 {
     match word {
         [] => false,
         [first, ..] => !(*first == b'-' || *first == b'+'),
     }
+}
+
+fn of_volume(alloc: Global, name: &[u8], volume: &[u8]) -> Result<Option<Command>, Memory>
+    ensures { IfOk result (λ command. command ≡ of_volume name.now volume.now) }
+{
+    let volume = Bytes::from_slice(alloc, volume)?;
+    Ok(if name == b"define".as_slice() {
+        Some(Command::Define { volume })
+    } else if name == b"load".as_slice() {
+        Some(Command::Load { volume })
+    } else if name == b"unload".as_slice() {
+        Some(Command::Unload { volume })
+    } else if name == b"call".as_slice() {
+        Some(Command::Call { volume })
+    } else if name == b"report".as_slice() {
+        Some(Command::Report { volume })
+    } else {
+        None
+    })
+}
+
+fn of_part(
+    alloc: Global,
+    name: &[u8],
+    volume: &[u8],
+    part: &[u8],
+) -> Result<Option<Command>, Memory>
+    ensures { IfOk result (λ command. command ≡ of_part name.now volume.now part.now) }
+{
+    if name != b"reorg".as_slice() {
+        return Ok(None);
+    }
+    let volume = Bytes::from_slice(alloc, volume)?;
+    let part = Bytes::from_slice(alloc, part)?;
+    Ok(Some(Command::Reorg { volume, part }))
+}
+
+fn of_count(
+    alloc: Global,
+    name: &[u8],
+    volume: &[u8],
+    count: Option<u32>,
+    number: Option<u32>,
+) -> Result<Option<Command>, Memory>
+    ensures { IfOk result (λ command. command ≡ of_count name.now volume.now count number) }
+{
+    let (Some(count), Some(number)) = (count, number) else {
+        return Ok(None);
+    };
+    let volume = Bytes::from_slice(alloc, volume)?;
+    Ok(if name == b"make".as_slice() {
+        Some(Command::Make {
+            volume,
+            count,
+            number,
+        })
+    } else if name == b"exercise".as_slice() {
+        Some(Command::Exercise {
+            volume,
+            count,
+            number,
+        })
+    } else {
+        None
+    })
+}
+
+/// A number from the least to the most, written by 1 to 10 digits.
+fn number_of(least: u32, most: u32, word: &[u8]) -> Option<u32>
+    ensures { result ≡ number_of least most word.now }
+{
+    if word.is_empty() || word.len() > 10 || !are_digits(word) {
+        return None;
+    }
+    let value = value_of(word);
+    if u64::from(least) <= value && value <= u64::from(most) {
+        Some(value as u32)
+    } else {
+        None
+    }
+}
+
+fn are_digits(word: &[u8]) -> bool
+    ensures { result ≡ list_all is_digit word.now }
+{
+    word.iter().all(|byte| is_digit(*byte))
+}
+
+fn is_digit(byte: u8) -> bool
+    ensures { result ≡ is_digit byte }
+{
+    48 <= byte && byte <= 57
+}
+
+/// The number that digits write; one that has more than 32 bits as the least such number.
+fn value_of(digits: &[u8]) -> u64
+    requires { IsTrue (list_all is_digit digits.now) }
+    ensures { result ≡ min (value_of digits.now) 4294967296 }
+{
+    let mut value: u64 = 0;
+    for digit in digits {
+        value = (10 * value + (*digit - b'0') as u64).min(4_294_967_296);
+    }
+    value
 }

@@ -1,5 +1,5 @@
 // The first path: a script over one list.
-use crate::{SMOOTH, Trouble, called, ran};
+use crate::{SMOOTH, Trouble, called};
 use hal_base::{Bytes, List, Site, Source};
 use hal_desk::run;
 use hal_disk::{MemSite, SureSource};
@@ -52,23 +52,6 @@ fn a_line_of_any_length_has_its_reply(rt: HostRuntime) -> Result<(), Fail> {
     let outcome = called(alloc, script.as_slice(), SMOOTH)?;
     assert_eq!(rt; outcome.status, 0);
     assert_eq!(rt; outcome.said.as_slice(), b"1 +B 9\n2 --\n".as_slice());
-    Ok(())
-}
-
-#[test]
-fn other_words_are_refused(rt: HostRuntime) -> Result<(), Fail> {
-    let alloc = rt.alloc();
-    for line in [
-        "", "frob V", "call", "call -V", "call +V", "call V 9", "help", "crew V",
-    ] {
-        let mut words = Vec::new(alloc);
-        for word in line.split_whitespace() {
-            words.push(String::from_str(alloc, word)?)?;
-        }
-        let outcome = ran(alloc, words.as_slice(), TWO_LINES, SMOOTH)?;
-        assert_eq!(rt; outcome.status, 1, "{line}");
-        assert_eq!(rt; outcome.said.as_slice(), b"refused usage\n".as_slice());
-    }
     Ok(())
 }
 

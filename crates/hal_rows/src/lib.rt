@@ -2,9 +2,9 @@
 //! journal over sites in memory, and the rules of definitions.
 #![tactic(auto)]
 
-ghost use Rattle.std.specs.Prelude.{◌≡◌, ◌≤◌, ◌⊎◌, ◌≢◌, IfOk, IsTrue, map};
+ghost use Rattle.std.specs.Prelude.{◌≡◌, ◌≤◌, ◌⊎◌, IfOk, None, map};
 ghost use Rattle.std.specs.String.{string_bytes};
-ghost use Rattle.hal_desk.specs.Words.{is_call};
+ghost use Rattle.hal_desk.specs.Words.{command_of};
 
 use hal_base::{Bytes, List, Memory};
 use hal_desk::run;
@@ -36,7 +36,6 @@ pub const SMOOTH: Trouble = Trouble {
 /// Runs `call V` over a script in memory.
 pub fn called(alloc: Global, script: &[u8], trouble: Trouble) -> Result<Outcome, Memory>
     requires { 1 ≤ trouble.piece }
-    ensures { IfOk result (λ outcome. outcome.status ≢ 1) }
 {
     let mut words = Vec::new(alloc);
     words.push(String::from_str(alloc, "call")?)?;
@@ -52,8 +51,7 @@ pub fn ran(
     trouble: Trouble,
 ) -> Result<Outcome, Memory>
     requires { 1 ≤ trouble.piece }
-    ensures usage { (IsTrue (is_call (map string_bytes words.now)) → ⊥) → IfOk result (λ outcome. (outcome.status ≡ 1) ⊎ (outcome.status ≡ 6)) }
-    ensures call { IsTrue (is_call (map string_bytes words.now)) → IfOk result (λ outcome. outcome.status ≢ 1) }
+    ensures { command_of (map string_bytes words.now) ≡ None → IfOk result (λ outcome. (outcome.status ≡ 1) ⊎ (outcome.status ≡ 6) ⊎ (outcome.status ≡ 8)) }
 {
     let mut reads = List::new(alloc);
     reads.push(trouble.failing_read)?;
@@ -68,6 +66,8 @@ pub fn ran(
     })
 }
 
+#[cfg(test)]
+mod commands;
 #[cfg(test)]
 mod definitions;
 #[cfg(test)]

@@ -1,0 +1,165 @@
+-- What commands did.
+use Rattle.std.proofs.Common.{◌≡◌, ℕ, ◌≤◌, ◌⊎◌, inl, inr, List, [], length, take, drop, ◌-◌, Option, Some, None, Result, Ok, Err, refl, sym, ap, ◌∙◌, subst, arith}
+use Rattle.std.specs.Prelude.{MatchResult}
+use Rattle.std.specs.Io.KnownBytes.{IsAtEnd}
+use Rattle.std.proofs.KnownBytes.{Consumes-nil, Appends-nil, Keeps-refl}
+use Rattle.std.specs.Str.Lines.{lines}
+use Rattle.std.proofs.lemmas.List.{length-drop}
+use Rattle.std.proofs.Math.Seq.{take-length}
+use Rattle.hal_base.specs.Fault.{Rose}
+use Rattle.hal_schema.specs.declared.raw.RawDbd.{RawDbd}
+use Rattle.hal_schema.specs.declared.raw.RawParts.{RawParts}
+use Rattle.hal_schema.specs.declared.raw.RawSchema.{RawSchema}
+use Rattle.hal_schema.specs.Places.{statement, partition}
+use Rattle.dbd_reader.specs.declared.fault.TextFault.{TextFault}
+use Rattle.dbd_reader.specs.declared.fault.TextFault.TheVariants as fault
+use Rattle.dbd_reader.specs.Definition.{meaning_of, Says}
+use Rattle.partition_reader.specs.Partitions.{partitions_of}
+use Rattle.hal_desk.specs.State.{empty_state}
+use Rattle.hal_desk.specs.Run.{Told}
+use Rattle.hal_desk.specs.Says.{SaysLine}
+use Rattle.hal_desk.specs.Script.{Outside, status_of, limit}
+use Rattle.hal_desk.specs.Taken.{StoppedAt}
+use Rattle.hal_desk.specs.Gathered.{Gathered, IsCut}
+use Rattle.hal_desk.specs.Define.{Broken, DefineEnds, RanDefine, answer_of, definition_of, judged, with_dbd, with_parts}
+use Rattle.hal_desk.specs.Top.{Did, RanCall, EndsWell}
+use Rattle.hal_desk.specs.declared.define.Answer.{Answer}
+use Rattle.hal_desk.specs.declared.ending.Ending.{Ending}
+use Rattle.hal_desk.specs.declared.ending.Ending.TheVariants as ending
+use Rattle.hal_desk.specs.declared.source.SourceFault.{SourceFault}
+use Rattle.hal_desk.specs.declared.taker.EngineFault.TheVariants as engine
+use Rattle.hal_desk.specs.declared.words.Command.{Command}
+use Rattle.hal_desk.specs.declared.words.Command.TheVariants.{Define, Load, Unload, Call, Report, Reorg, Make, Exercise}
+use Rattle.hal_desk.proofs.Complete.{complete, taken_within}
+use Rattle.hal_desk.proofs.Composed.{RunsTo-nil}
+use Rattle.hal_desk.proofs.Endings.{ran_stopped}
+
+-- ---- what a source says
+
+-- the part of a text from a place to its end
+pub rest_from : (n : ℕ) (text : List ℕ) → take (length text - n) (drop n text) ≡ drop n text
+rest_from n text = ap (λ k. take k (drop n text)) (sym (length-drop n text)) ∙ take-length (drop n text)
+
+pub told : {X : Type 0} (r m : Result X TextFault) (rule line : ℕ) → Says r m → r ≡ Err (fault.Rule rule line) → m ≡ Err (fault.Rule rule line)
+told r m rule line s e = subst (λ r. Says r m) e s
+
+pub told_ok : {X : Type 0} (r m : Result X TextFault) (x : X) → Says r m → r ≡ Ok x → m ≡ Ok x
+told_ok r m x s e = subst (λ r. Says r m) e s
+
+pub text_broken : (text : List ℕ) (rule line : ℕ) → meaning_of text ≡ Err (fault.Rule rule line) → definition_of text ≡ Err (rule, statement line)
+unfolding definition_of
+text_broken text rule line e = ap (λ m. judged (with_dbd text m)) e
+
+pub file_broken : (text : List ℕ) (dbd : RawDbd) (place rule number : ℕ) → meaning_of text ≡ Ok (dbd, place) → partitions_of (drop place text) ≡ Err (fault.Rule rule number) → definition_of text ≡ Err (rule, partition number)
+unfolding definition_of
+file_broken text dbd place rule number e f = ap (λ m. judged (with_dbd text m)) e ∙ ap (λ p. judged (with_parts dbd p)) f
+
+pub both_read : (text : List ℕ) (dbd : RawDbd) (place : ℕ) (parts : RawParts) → meaning_of text ≡ Ok (dbd, place) → partitions_of (drop place text) ≡ Ok parts → definition_of text ≡ judged (Ok (record { dbd = dbd; parts = parts }))
+unfolding definition_of
+both_read text dbd place parts e f = ap (λ m. judged (with_dbd text m)) e ∙ ap (λ p. judged (with_parts dbd p)) f
+
+-- ---- the line of a definition
+
+pub ran_answer : (before after : Outside) (r : Result (List ℕ) SourceFault) (text line : List ℕ) (a : Answer) (status : ℕ) → Gathered before.left after.left before.read_faults after.read_faults r → r ≡ Ok text
+    → a ≡ answer_of (definition_of text) → line ≡ a.line → SaysLine line a.status before.said after.said before.say_faults after.say_faults status → RanDefine before after status
+ran_answer before after r text line a status g e is at says =
+    let ends : (text ≡ g.taken) × (length g.taken ≤ limit) × _ = subst (λ r. MatchResult r (λ text. (text ≡ g.taken) × (length g.taken ≤ limit) × IsAtEnd after.left) (λ fault. IsCut fault (length g.taken) before.read_faults after.read_faults)) e g.ends in
+    let same : a ≡ answer_of (definition_of g.taken) = is ∙ ap (λ t. answer_of (definition_of t)) ends.0 in
+    let P : Answer → Type 0 = λ b. SaysLine b.line b.status before.said after.said before.say_faults after.say_faults status in
+    record {
+      taken = g.taken;
+      read = g.read;
+      ends = inl (ends.1, ends.2, subst P same (subst (λ l. SaysLine l a.status before.said after.said before.say_faults after.say_faults status) at says));
+    }
+
+-- ---- no memory for the words
+
+stopped : (said : Option (List ℕ)) (told : Told) → StoppedAt None (lines []) 1 told told said said engine.Memory
+stopped said told = record {
+  events = [];
+  begun = [];
+  part = [];
+  left = lines [];
+  lines = record { run = RunsTo-nil told; took = refl; text = Appends-nil said };
+  began = inl (refl, refl);
+}
+
+call_not_begun : (before : Outside) → RanCall before before 8
+call_not_begun before =
+    let start : Told = record { state = Some empty_state; free = 0 } in
+    record {
+      ending = ending.Memory;
+      status_is = refl;
+      after_told = start;
+      ran = ran_stopped engine.Memory [] 1 limit before before start start [] (Consumes-nil before.left) (omega arith) (stopped before.said start) tt;
+    }
+
+pub nothing_done : (command : Option Command) (before : Outside) → Did command before before 8
+nothing_done None before = inr (inr (refl, Keeps-refl before.said))
+nothing_done (Some (Define volume)) before = record {
+  taken = [];
+  read = Consumes-nil before.left;
+  ends = inr (inr (inl (refl, omega arith, Keeps-refl before.said)));
+}
+nothing_done (Some (Call volume)) before = call_not_begun before
+nothing_done (Some (Load volume)) before = inr (inr (refl, Keeps-refl before.said))
+nothing_done (Some (Unload volume)) before = inr (inr (refl, Keeps-refl before.said))
+nothing_done (Some (Report volume)) before = inr (inr (refl, Keeps-refl before.said))
+nothing_done (Some (Reorg volume part)) before = inr (inr (refl, Keeps-refl before.said))
+nothing_done (Some (Make volume count number)) before = inr (inr (refl, Keeps-refl before.said))
+nothing_done (Some (Exercise volume count number)) before = inr (inr (refl, Keeps-refl before.said))
+
+-- ---- the words of a command
+
+pub same_did : (o p : Option Command) (before after : Outside) (status : ℕ) → o ≡ p → Did o before after status → Did p before after status
+same_did o p before after status e d = subst (λ o. Did o before after status) e d
+
+pub same_well : (o p : Option Command) (status : ℕ) → o ≡ p → EndsWell o status → EndsWell p status
+same_well o p status e d = subst (λ o. EndsWell o status) e d
+
+-- ---- where nothing fails
+
+answers_0_or_7 : (r : Result RawSchema Broken) → ((answer_of r).status ≡ 0) ⊎ ((answer_of r).status ≡ 7)
+answers_0_or_7 (Ok raw) = inl refl
+answers_0_or_7 (Err broken) = inr refl
+
+either : (status wanted : ℕ) → status ≡ wanted → (wanted ≡ 0) ⊎ (wanted ≡ 7) → (status ≡ 0) ⊎ (status ≡ 7) ⊎ (status ≡ 8)
+either status wanted e (inl z) = inl (e ∙ z)
+either status wanted e (inr s) = inr (inl (e ∙ s))
+
+line_well : (line : List ℕ) (wanted : ℕ) (said now : Option (List ℕ)) (faults faults_now status : ℕ) → (wanted ≡ 0) ⊎ (wanted ≡ 7) → (Rose faults faults_now → ⊥) → SaysLine line wanted said now faults faults_now status → (status ≡ 0) ⊎ (status ≡ 7) ⊎ (status ≡ 8)
+line_well line wanted said now faults faults_now status w never (inl h) = either status wanted h.0 w
+line_well line wanted said now faults faults_now status w never (inr (inl h)) = absurd (never h.2)
+line_well line wanted said now faults faults_now status w never (inr (inr h)) = inr (inr h.0)
+
+define_well : (before after : Outside) (status : ℕ) (text : List ℕ) (ran : RanDefine before after status) → DefineEnds ran.taken before after status → before.left ≡ Some text → length text ≤ limit
+    → (Rose before.read_faults after.read_faults → ⊥) → (Rose before.say_faults after.say_faults → ⊥) → (status ≡ 0) ⊎ (status ≡ 7) ⊎ (status ≡ 8)
+define_well before after status text ran (inl h) tells within reads says =
+    line_well (answer_of (definition_of ran.taken)).line (answer_of (definition_of ran.taken)).status before.said after.said before.say_faults after.say_faults status (answers_0_or_7 (definition_of ran.taken)) says h.2
+define_well before after status text ran (inr (inl h)) tells within reads says = absurd (reads h.3)
+define_well before after status text ran (inr (inr (inl h))) tells within reads says = inr (inr h.0)
+define_well before after status text ran (inr (inr (inr h))) tells within reads says =
+    let short : length ran.taken ≤ length text = taken_within text ran.taken after.left (rw tells at ran.read) in
+    let long = h.1 in absurd (omega (arith, short, within, long))
+
+rose_not : (m n : ℕ) → m ≡ 0 → n ≡ 0 → Rose m n → ⊥
+rose_not m n d e rose = omega (arith, d, e, rose)
+
+status_by : (status : ℕ) (e : Ending) → status ≡ status_of e → (status_of e ≡ 0) ⊎ (status_of e ≡ 8) → (status ≡ 0) ⊎ (status ≡ 8)
+status_by status e is (inl h) = inl (is ∙ h)
+status_by status e is (inr h) = inr (is ∙ h)
+
+pub ends_well : (command : Option Command) (before after : Outside) (status : ℕ) (text : List ℕ) → before.disk_faults ≡ 0 → after.disk_faults ≡ 0 → Did command before after status → before.left ≡ Some text → length text ≤ limit
+    → (Rose before.read_faults after.read_faults → ⊥) → (Rose before.say_faults after.say_faults → ⊥) → EndsWell command status
+ends_well None before after status text d e did tells within reads says = tt
+ends_well (Some (Define volume)) before after status text d e did tells within reads says = define_well before after status text did did.ends tells within reads says
+ends_well (Some (Call volume)) before after status text d e did tells within reads says =
+    let never : Rose before.disk_faults after.disk_faults → ⊥ = λ rose. rose_not before.disk_faults after.disk_faults d e rose in
+    let c = complete before after _ did.after_told did.ending text did.ran tells within reads says never in
+    status_by status did.ending did.status_is c
+ends_well (Some (Load volume)) before after status text d e did tells within reads says = tt
+ends_well (Some (Unload volume)) before after status text d e did tells within reads says = tt
+ends_well (Some (Report volume)) before after status text d e did tells within reads says = tt
+ends_well (Some (Reorg volume part)) before after status text d e did tells within reads says = tt
+ends_well (Some (Make volume count number)) before after status text d e did tells within reads says = tt
+ends_well (Some (Exercise volume count number)) before after status text d e did tells within reads says = tt
