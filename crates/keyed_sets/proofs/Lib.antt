@@ -1,0 +1,5 @@
+pub mod Rows
+pub mod Places
+pub mod Moves
+pub mod Puts
+pub mod Edits

@@ -1,0 +1,20 @@
+//! Sets of rows by key: secondary indexes, root anchors and indirect lists. A set's rows stand in pages of
+//! 4,096 bytes:
+//!
+//!     0     header of the page, whose bytes 8 and 9 count the rows
+//!     16    rows that rise by key, one behind the other: a key and a body of the set's lengths
+//!     ..    zeros up to 4,096
+//!
+//! This is the level of one page. All calls take the page as it stands, and move no row that needn't move.
+#![tactic(auto)]
+
+mod edit;
+mod page;
+mod row;
+
+pub use edit::{insert_row, move_rows, remove_row};
+pub use page::{body_at, count_in, has_place, has_room, key_at, place_in};
+pub use row::RowShape;
+
+#[cfg(test)]
+mod tests;
