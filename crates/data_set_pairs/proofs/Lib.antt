@@ -1,0 +1,2 @@
+pub mod RowRoom
+pub mod RowZeros
