@@ -1,3 +1,4 @@
 pub mod Control
 pub mod Header
 pub mod Pages
+pub mod Rows

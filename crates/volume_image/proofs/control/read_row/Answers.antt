@@ -1,5 +1,5 @@
-use Rattle.data_set_pairs.proofs.RowRoom.{none_found, none_lawful}
-use Rattle.data_set_pairs.proofs.control.read_row.Goals as goal
+use Rattle.volume_image.proofs.RowRoom.{none_found, none_lawful}
+use Rattle.volume_image.proofs.control.read_row.Goals as goal
 
 pub returns-in_default-clause-none : goal.returns-in_default-clause-none
 returns-in_default-clause-none c = none_found c.args.schema.now c.args.place c.args.row.now c.args.schema.now.kept_parts (λ s room is. let f = c.in_ok-state.ensures.found s room is in cc)

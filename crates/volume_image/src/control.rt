@@ -2,7 +2,7 @@
 ghost use Rattle.std.specs.Prelude.{◌≡◌, ◌==◌, ◌&&◌, nat_le, ◌↔◌, ◌+◌, ◌≤◌, ◌++◌, ◌∷◌, ℕ, List, length, get_or, take, drop, IfOk, IfSome, IfNone, IsTrue, Some};
 ghost use Rattle.hal_base.specs.declared.place.Cursor.TheVariants.{At};
 ghost use Rattle.volume_image.specs.Control.{cursor_kind, cursor_bytes, cursor_fits, most_number, standing_fits, part_state_fits, state_fits, control_row};
-ghost use Rattle.data_set_pairs.specs.Rows.{HasRowRoom};
+ghost use Rattle.volume_image.specs.Rows.{HasRowRoom};
 ghost use Rattle.hal_schema.specs.SegType.{key_bytes};
 
 use hal_base::{Bytes, Cursor, Memory, PartState, get16, get32, put16};

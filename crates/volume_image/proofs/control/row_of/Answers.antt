@@ -1,7 +1,7 @@
 use Rattle.std.proofs.Common.{◌≡◌, ◌∙◌, ◌+◌, ◌-◌, ◌/◌, ◌%◌, ◌++◌, ◌∷◌, [], List, ℕ, ap, length, take, drop, replicate, slice_set}
 use Rattle.volume_image.specs.Control.{cursor_bytes}
-use Rattle.data_set_pairs.proofs.RowZeros.{zeros_past}
-use Rattle.data_set_pairs.proofs.control.row_of.Goals as goal
+use Rattle.volume_image.proofs.RowZeros.{zeros_past}
+use Rattle.volume_image.proofs.control.row_of.Goals as goal
 
 pub returns : goal.returns
 returns c =

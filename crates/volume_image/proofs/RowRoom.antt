@@ -13,7 +13,7 @@ use Rattle.hal_schema.specs.declared.schema.PartDef.{PartDef}
 use Rattle.hal_schema.specs.declared.schema.Schema.{Schema}
 use Rattle.hal_schema.specs.Lawful.{part_is_kept, factors_fit, number_fits}
 use Rattle.volume_image.specs.Control.{most_number, standing_fits, cursor_fits, part_state_fits, state_fits, control_row}
-use Rattle.data_set_pairs.specs.Rows.{HasRowRoom, HasAnchorRoom}
+use Rattle.volume_image.specs.Rows.{HasRowRoom, HasAnchorRoom}
 
 kept_at : {X : Type 0} (p : X → Bool) (xs : List X) (k : ℕ) (x : X) → list_all p xs ≡ true → slice_get xs k ≡ Some x → p x ≡ true
 kept_at {X} p xs k x all is = by (p x) refl
