@@ -10,3 +10,6 @@ pub mod RootCase
 pub mod WordLemmas
 pub mod ReadDbd
 pub mod Commands
+pub mod Walks
+pub mod Levels
+pub mod Parsed

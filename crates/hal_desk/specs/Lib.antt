@@ -2,6 +2,7 @@ pub mod Define
 pub mod FirstRoots
 pub mod Form
 pub mod Gathered
+pub mod Grammar
 pub mod Lines
 pub mod Names
 pub mod OneList

@@ -5,6 +5,7 @@ mod define;
 mod desk;
 mod ending;
 mod form;
+mod grammar;
 mod laws;
 mod one_list;
 mod roots;

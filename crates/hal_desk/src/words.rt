@@ -3,6 +3,8 @@ ghost use Rattle.std.specs.Prelude.{◌≡◌, IfOk, IsTrue, length, map, min};
 ghost use Rattle.std.specs.List.{list_all};
 ghost use Rattle.std.specs.String.{string_bytes};
 
+use crate::grammar::parse;
+use clap::ArgMatches;
 use hal_base::{Bytes, Memory};
 use std::alloc::Global;
 
@@ -48,7 +50,9 @@ pub enum Command {
     },
 }
 
-ghost use Rattle.hal_desk.specs.Words.{command_of, is_digit, is_word, number_of, of_count, of_part, of_volume, row_of, value_of};
+ghost use Rattle.clap.specs.Words.{found_of, rows_of, subcommand_rows_of};
+ghost use Rattle.hal_desk.specs.Grammar.{command_in, command_of_row};
+ghost use Rattle.hal_desk.specs.Words.{command_of, is_digit, is_word, number_of, of_count, of_part, of_volume, value_of};
 
 /// Reads the words after the program's name: none where they are no command.
 pub fn read_command(alloc: Global, words: &[String]) -> Result<Option<Command>, Memory>
@@ -57,18 +61,40 @@ pub fn read_command(alloc: Global, words: &[String]) -> Result<Option<Command>, 
     if !are_words(words) {
         return Ok(None);
     }
-    match words {
-        [] => Ok(None),
-        [_] => Ok(None),
-        [name, volume] => of_volume(alloc, name.as_bytes(), volume.as_bytes()),
-        [name, volume, part] => of_part(alloc, name.as_bytes(), volume.as_bytes(), part.as_bytes()),
-        [name, volume, count, number] => {
-            let count = number_of(1, 10_000, count.as_bytes());
-            let number = number_of(0, 4_294_967_295, number.as_bytes());
-            of_count(alloc, name.as_bytes(), volume.as_bytes(), count, number)
-        }
-        [_, _, _, _, _, ..] => Ok(None),
+    match parse(alloc, words) {
+        Ok(Some(matches)) => of_matches(alloc, &matches),
+        Ok(None) => Ok(None),
+        Err(Memory) => Err(Memory),
     }
+}
+
+fn of_matches(alloc: Global, matches: &ArgMatches<'_>) -> Result<Option<Command>, Memory>
+    ensures { IfOk result (λ command. command ≡ command_in (subcommand_rows_of matches.now)) }
+{
+    match matches.subcommand() {
+        Some((name, row)) => of_row(alloc, name.as_bytes(), row),
+        None => Ok(None),
+    }
+}
+
+fn of_row(alloc: Global, name: &[u8], row: &ArgMatches<'_>) -> Result<Option<Command>, Memory>
+    ensures { IfOk result (λ command. command ≡ command_of_row name.now (rows_of (found_of row.now))) }
+{
+    let Some(volume) = row.get_str("volume") else {
+        return Ok(None);
+    };
+    if let Some(part) = row.get_str("part") {
+        return of_part(alloc, name, volume.as_bytes(), part.as_bytes());
+    }
+    let Some(count) = row.get_str("count") else {
+        return of_volume(alloc, name, volume.as_bytes());
+    };
+    let Some(number) = row.get_str("number") else {
+        return Ok(None);
+    };
+    let count = number_of(1, 10_000, count.as_bytes());
+    let number = number_of(0, 4_294_967_295, number.as_bytes());
+    of_count(alloc, name, volume.as_bytes(), count, number)
 }
 
 fn are_words(words: &[String]) -> bool

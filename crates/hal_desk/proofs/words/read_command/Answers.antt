@@ -1,19 +1,18 @@
-use Rattle.std.proofs.Common.{◌≡◌, ◌<◌, ◌≤◌, List, ℕ, length, map, arith}
+use Rattle.std.proofs.Common.{◌≡◌, ◌∙◌, map, true}
+use Rattle.std.specs.List.{list_all}
 use Rattle.std.specs.String.{string_bytes}
-use Rattle.std.proofs.lemmas.List.{length-map}
-use Rattle.hal_desk.proofs.WordLemmas.{few_words, many_words, no_row}
+use Rattle.std.proofs.lemmas.Result.{IfOk-weaker}
+use Rattle.hal_desk.specs.Words.{is_word}
+use Rattle.hal_desk.proofs.Parsed.{parsed_none, parsed_some}
 use Rattle.hal_desk.proofs.words.read_command.Goals as goal
 
-pub returns-in-len1 : goal.returns-in-len1
-returns-in-len1 c =
-    let words : List (List ℕ) = map string_bytes c.args.words.now in
-    let n : length words ≡ length c.args.words.now = length-map c.args.words.now string_bytes in
-    let l : length words < 2 = omega (arith, n, c.in-len1.len_below) in
-    no_row words (few_words words l)
+pub returns-in-Ok-None : goal.returns-in-Ok-None
+returns-in-Ok-None c =
+    let all : list_all is_word (map string_bytes c.args.words.now) ≡ true = cc in
+    parsed_none (map string_bytes c.args.words.now) c.in-Ok-None.field-0 c.in-Ok-None.field-0-is c.in-Ok-None.ensures all
 
-pub returns-in-len5-up : goal.returns-in-len5-up
-returns-in-len5-up c =
-    let words : List (List ℕ) = map string_bytes c.args.words.now in
-    let n : length words ≡ length c.args.words.now = length-map c.args.words.now string_bytes in
-    let l : 5 ≤ length words = omega (arith, n, c.in-len5-up.len_at_least) in
-    no_row words (many_words words l)
+pub returns-in-Ok-Some : goal.returns-in-Ok-Some
+returns-in-Ok-Some c =
+    let all : list_all is_word (map string_bytes c.args.words.now) ≡ true = cc in
+    IfOk-weaker c.of_matches.result _ _ (λ r e. e ∙ parsed_some (map string_bytes c.args.words.now)
+    c.in-Ok-Some.field-0 c.in-Ok-Some.matches c.in-Ok-Some.field-0-is c.in-Ok-Some.ensures all) c.of_matches.ensures
