@@ -3,3 +3,5 @@ pub mod Places
 pub mod Moves
 pub mod Puts
 pub mod Edits
+pub mod Rising
+pub mod Breaks

@@ -1,2 +1,3 @@
 pub mod Bytes
 pub mod Layout
+pub mod Rule

@@ -8,10 +8,12 @@
 //! This is the level of one page. All calls take the page as it stands, and move no row that needn't move.
 #![tactic(auto)]
 
+mod check;
 mod edit;
 mod page;
 mod row;
 
+pub use check::{capacity, page_break};
 pub use edit::{insert_row, move_rows, remove_row};
 pub use page::{body_at, count_in, has_place, has_room, key_at, place_in};
 pub use row::RowShape;

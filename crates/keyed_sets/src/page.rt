@@ -1,4 +1,4 @@
-ghost use Rattle.std.specs.Prelude.{◌≡◌, ◌≤◌, ◌<◌, ◌+◌, ◌*◌, ◌↔◌, length, IsTrue, Some, slice_get};
+ghost use Rattle.std.specs.Prelude.{◌≡◌, ◌≤◌, ◌<◌, ◌+◌, ◌*◌, ◌↔◌, length, IsTrue, Some, slice_get, take, drop};
 ghost use Rattle.std.specs.Option.{option_map};
 ghost use Rattle.keyed_sets.specs.Layout.{rows_in, count_of, end_of, HasPlace, place_of, is_below};
 
@@ -27,14 +27,22 @@ pub fn has_room(shape: RowShape, page: &[u8; BLOCK]) -> bool
     end_of(shape, usize::from(count_in(page)) + 1) <= BLOCK
 }
 
+/// The key that stands at a place, whether the head counts its row or not.
+pub(crate) fn key_from(shape: RowShape, page: &[u8; BLOCK], at: u16) -> &[u8]
+    requires { end_of shape (at + 1) ≤ 4096 }
+    ensures { result.now ≡ take shape.key (drop (end_of shape at) page.now) }
+{
+    let start = end_of(shape, usize::from(at));
+    &page[start..start + usize::from(shape.key)]
+}
+
 /// The key of the row at a place.
 pub fn key_at(shape: RowShape, page: &[u8; BLOCK], at: u16) -> &[u8]
     requires place { HasPlace shape page.now }
     requires within { at < count_of page.now }
     ensures { option_map (λ row. row.0) (slice_get (rows_in shape page.now) at) ≡ Some result.now }
 {
-    let start = end_of(shape, usize::from(at));
-    &page[start..start + usize::from(shape.key)]
+    key_from(shape, page, at)
 }
 
 /// The body of the row at a place.
@@ -62,7 +70,7 @@ pub fn place_in(shape: RowShape, page: &[u8; BLOCK], key: &[u8]) -> u16
     count
 }
 
-fn is_below(a: &[u8], b: &[u8]) -> bool
+pub(crate) fn is_below(a: &[u8], b: &[u8]) -> bool
     ensures { result ≡ is_below a.now b.now }
 {
     a.cmp(b).is_lt()

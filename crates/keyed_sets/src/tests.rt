@@ -1,7 +1,7 @@
 //! Rows of one page.
 use crate::{
-    RowShape, body_at, count_in, has_place, has_room, insert_row, key_at, move_rows, place_in,
-    remove_row,
+    RowShape, body_at, capacity, count_in, has_place, has_room, insert_row, key_at, move_rows,
+    page_break, place_in, remove_row,
 };
 use hal_base::{BLOCK, SetId, empty_page};
 
@@ -143,4 +143,21 @@ fn rows_rise_whatever_order_they_come_in(rt: HostRuntime) {
     assert!(rt; goes_through(pair, &[1, 2]));
     assert!(rt; goes_through(pair, &[2, 1]));
     assert!(rt; !goes_through(pair, &[2, 1, 3]));
+}
+
+#[test]
+fn a_page_breaks_at_its_first_row_that_does_not_rise(rt: HostRuntime) {
+    let mut page = empty_page(SET, 2, 0);
+    assert_eq!(rt; capacity(SHAPE), 582);
+    assert_eq!(rt; page_break(SHAPE, &page), None);
+    assert_eq!(rt; fill(&mut page), 582);
+    assert_eq!(rt; page_break(SHAPE, &page), None);
+    page[4095] = 1;
+    assert_eq!(rt; page_break(SHAPE, &page), Some(16));
+    page[9] = 0xff;
+    assert_eq!(rt; page_break(SHAPE, &page), Some(16));
+    page[32] = page[25];
+    assert_eq!(rt; page_break(SHAPE, &page), Some(30));
+    page[0] = 1;
+    assert_eq!(rt; page_break(SHAPE, &page), Some(16));
 }
