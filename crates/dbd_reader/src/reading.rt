@@ -1,5 +1,6 @@
 // The whole text.
-ghost use Rattle.std.specs.Prelude.{◌≡◌, ◌+◌, ◌-◌, ◌<◌, ◌^◌, length, IfOk};
+ghost use Rattle.std.specs.Prelude.{◌≡◌, ◌+◌, ◌-◌, ◌<◌, ◌≤◌, ◌^◌, length, IfOk, IsTrue};
+ghost use Rattle.hal_schema.specs.Named.{dbd_is_named};
 ghost use Rattle.std.specs.Str.Lines.{lines};
 ghost use Rattle.dbd_reader.specs.Words.{word_of};
 ghost use Rattle.dbd_reader.specs.Reading.{Gives};
@@ -81,11 +82,8 @@ fn line_behind(text: &[u8]) -> u32
     line
 }
 
-/// Reads a database definition, DBD source up to and with its END line: the raw definition, whose own rules
-/// aren't looked at yet, and where the text behind that line begins.
-///
-/// A text that breaks a rule of statements and operands (13 to 19) is refused with the first line that does.
-pub fn read_dbd(alloc: Global, text: &[u8]) -> Result<(RawDbd, usize), TextFault>
+/// One statement after the other, up to END.
+fn read_text(alloc: Global, text: &[u8]) -> Result<(RawDbd, usize), TextFault>
     requires { length text.now < 2 ^ 32 - 1 }
     ensures { Says result (meaning_of text.now) }
 {
@@ -104,4 +102,19 @@ pub fn read_dbd(alloc: Global, text: &[u8]) -> Result<(RawDbd, usize), TextFault
         rule: 19,
         line: line_behind(text),
     })
+}
+
+/// Reads a database definition, DBD source up to and with its END line: the raw definition, whose own rules
+/// aren't looked at yet, and where the text behind that line begins.
+///
+/// A text that breaks a rule of statements and operands (13 to 19) is refused with the first line that does.
+pub fn read_dbd(alloc: Global, text: &[u8]) -> Result<(RawDbd, usize), TextFault>
+    requires { length text.now < 2 ^ 32 - 1 }
+    ensures says { Says result (meaning_of text.now) }
+    // What a text says has a type and plain names, and the text behind is a part of it.
+    ensures types { IfOk result (λ read. 0 < length read.0.types) }
+    ensures named { IfOk result (λ read. IsTrue (dbd_is_named read.0)) }
+    ensures within { IfOk result (λ read. read.1 ≤ length text.now) }
+{
+    read_text(alloc, text)
 }

@@ -10,7 +10,7 @@ use Rattle.std.specs.Str.{is_utf8}
 use Rattle.hal_schema.specs.declared.schema.PartDef.{PartDef}
 use Rattle.hal_schema.specs.declared.schema.Schema.{Schema}
 use Rattle.definition_printer.specs.Partitions.{high_text, text_line, number_line, table_line, name_lines, space_lines, part_text, partitions_text}
-use Rattle.definition_text.specs.Raw.{IsPrintable, ArePrintable}
+use Rattle.definition_text.proofs.Printable.{IsPrintable, ArePrintable}
 use Rattle.definition_text.proofs.Quoted.{is_simple, IsSimple}
 use Rattle.definition_text.proofs.HighText.{all_imply, name_simple, high_simple}
 

@@ -11,7 +11,7 @@ use Rattle.toml.proofs.ReadValues.{item_join, item_join-none, item_join-push}
 use Rattle.hal_schema.specs.declared.schema.PartDef.{PartDef}
 use Rattle.hal_schema.specs.declared.schema.Schema.{Schema}
 use Rattle.definition_printer.specs.Partitions.{high_text, text_line, number_line, table_line, name_lines, space_lines, part_text, partitions_text}
-use Rattle.definition_text.specs.Raw.{IsPrintable, ArePrintable}
+use Rattle.definition_text.proofs.Printable.{IsPrintable, ArePrintable}
 use Rattle.definition_text.proofs.HighText.{name_simple, high_simple}
 use Rattle.definition_text.proofs.LineTexts.{text_line-is, number_line-is, table_line-is}
 use Rattle.definition_text.proofs.PartValues.{part_members, items_of, members_of}

@@ -3,6 +3,7 @@ pub mod FileRun
 pub mod HighText
 pub mod LineTexts
 pub mod PartValues
+pub mod Printable
 pub mod Quoted
 pub mod ReadText
 pub mod ReadBack

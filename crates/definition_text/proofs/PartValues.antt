@@ -10,7 +10,8 @@ use Rattle.hal_schema.specs.declared.schema.Schema.{Schema}
 use Rattle.definition_printer.specs.Partitions.{high_text}
 use Rattle.partition_reader.specs.Values.{number_in, name_in, high_in}
 use Rattle.partition_reader.specs.Tables.{next_place, part_of, parts_from, parts_of}
-use Rattle.definition_text.specs.Raw.{IsPrintable, ArePrintable, raw_part, raw_parts_from, raw_parts_of}
+use Rattle.definition_text.specs.Raw.{raw_part, raw_parts_from, raw_parts_of}
+use Rattle.definition_text.proofs.Printable.{IsPrintable, ArePrintable}
 use Rattle.definition_text.proofs.HighText.{name_upper, high_back}
 
 -- the table of a partition, its keys in the order of their bytes

@@ -1,13 +1,10 @@
 -- The raw definition that the canonical texts of a schema say.
-use Rattle.std.specs.Prelude.{ℕ, ◌<◌, ◌^◌, List, [], ◌∷◌, length, Some, IsTrue}
-use Rattle.std.specs.List.{AllByRecursion}
-use Rattle.hal_base.specs.Name.{is_name}
+use Rattle.std.specs.Prelude.{ℕ, List, [], ◌∷◌, Some}
 use Rattle.hal_schema.specs.declared.raw.RawPart.{RawPart}
 use Rattle.hal_schema.specs.declared.raw.RawParts.{RawParts}
 use Rattle.hal_schema.specs.declared.schema.PartDef.{PartDef}
 use Rattle.hal_schema.specs.declared.schema.Schema.{Schema}
 use Rattle.partition_reader.specs.Tables.{next_place}
-use Rattle.hex.specs.Hex.{IsBytes}
 
 abbrev pub raw_part : ℕ → PartDef → RawPart
 raw_part place p = record { name = p.name; number = p.number; high = p.high; anchors = Some p.anchors; fbff = p.fbff; fspf = p.fspf; place = place }
@@ -19,16 +16,3 @@ raw_parts_from place (p ∷ more) = raw_part place p ∷ raw_parts_from (next_pl
 
 abbrev pub raw_parts_of : Schema → RawParts
 raw_parts_of s = record { blocks = s.blocks; parts = raw_parts_from 1 s.parts }
-
--- A partition as its type holds it, with a name that is no `/CK` name, and a high key of one byte or more.
-pub record IsPrintable (p : PartDef) : Type 0 where
-  pub name : IsTrue (is_name p.name)
-  pub some : 0 < length p.high
-  pub bytes : IsBytes p.high
-  pub number : p.number < 2 ^ 32
-  pub anchors : p.anchors < 2 ^ 32
-  pub fbff : p.fbff < 2 ^ 32
-  pub fspf : p.fspf < 2 ^ 32
-
-abbrev pub ArePrintable : Schema → Type 0
-ArePrintable s = (s.blocks < 2 ^ 32) × AllByRecursion IsPrintable s.parts

@@ -14,6 +14,12 @@ fn built(rt: &HostRuntime, text: &[u8]) -> Result<Schema, Fail> {
     if dbd.types.is_empty() {
         return Err(Fail::from("a type"));
     }
+    if !dbd.is_named() {
+        return Err(Fail::from("plain names"));
+    }
+    if !parts.are_named() {
+        return Err(Fail::from("plain names of partitions"));
+    }
     Ok(Schema::build(rt.alloc(), RawSchema { dbd, parts })?)
 }
 

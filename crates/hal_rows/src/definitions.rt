@@ -293,6 +293,12 @@ pub(crate) fn built(alloc: Global, raw: RawSchema) -> Result<Schema, SchemaFault
     if raw.dbd.types.is_empty() {
         return Err(SchemaFault::Memory);
     }
+    if !raw.dbd.is_named() {
+        return Err(SchemaFault::Memory);
+    }
+    if !raw.parts.are_named() {
+        return Err(SchemaFault::Memory);
+    }
     Schema::build(alloc, raw)
 }
 

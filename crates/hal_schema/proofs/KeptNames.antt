@@ -113,6 +113,7 @@ with_target types i target = option_and_then (with_source types i target) (code_
 
 pub record IsFound (types : List SegType) (i : RawIndex) (j : IndexDef) : Type 0 where
   pub target : code_named types i.target ≡ Some j.target
+  pub seg : j.seg ≡ i.seg
   pub name : j.name ≡ i.name
   pub xdfld : j.xdfld ≡ i.xdfld
 
@@ -126,6 +127,7 @@ index_found types i j e =
     let same : record { seg = i.seg; name = i.name; xdfld = i.xdfld; target = a.0; source = b.0; search = d.0; subseq = f.0 } ≡ j = same_Some (record { seg = i.seg; name = i.name; xdfld = i.xdfld; target = a.0; source = b.0; search = d.0; subseq = f.0 }) j f.2 in
     record {
       target = a.1 ∙ ap (λ (k : IndexDef). Some k.target) same;
+      seg = sym (ap (λ (k : IndexDef). k.seg) same);
       name = sym (ap (λ (k : IndexDef). k.name) same);
       xdfld = sym (ap (λ (k : IndexDef). k.xdfld) same);
     }

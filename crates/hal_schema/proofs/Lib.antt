@@ -13,3 +13,4 @@ pub mod KeptKeys
 pub mod KeptNames
 pub mod Differ
 pub mod KeptFields
+pub mod KeptPlain

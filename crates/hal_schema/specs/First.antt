@@ -46,4 +46,7 @@ first_schema = record {
   highs = refl;
   kept_parts = refl;
   kept_blocks = refl;
+  names = refl;
+  module_kept = refl;
+  stored_parts = refl;
 }

@@ -1,8 +1,9 @@
 -- What a checked definition keeps, as tests over its parts.
-use Rattle.std.specs.Prelude.{ℕ, ◌+◌, ◌==◌, nat_lt, nat_le, Bool, true, false, ◌&&◌, ◌||◌, not, List, [], ◌∷◌, ◌++◌, length, Option, None, Some, map, filter, sum_by, option_and_then, if◌then◌else◌}
+use Rattle.std.specs.Prelude.{ℕ, ◌+◌, ◌==◌, nat_lt, nat_le, Bool, true, false, ◌&&◌, ◌||◌, not, List, [], ◌∷◌, ◌++◌, length, Option, None, Some, is_some, map, filter, sum_by, option_and_then, if◌then◌else◌}
 use Rattle.std.specs.List.{list_all, list_any, slice_get, enumerate_from}
 use Rattle.std.specs.Option.{option_map_or}
 use Rattle.std.specs.Ordering.{is_lt}
+use Rattle.hal_base.specs.Name.{is_name, is_field_name}
 use Rattle.hal_schema.specs.Keys.{key_cmp}
 use Rattle.std.specs.Str.{bytes_eq}
 use Rattle.hal_schema.specs.declared.schema.Field.{Field}
@@ -118,3 +119,22 @@ part_is_kept phdam p = factors_fit phdam p && number_fits p.number
 
 abbrev pub blocks_are_kept : ℕ → Bool
 blocks_are_kept blocks = nat_le 1 blocks && nat_le blocks 65536
+
+-- No name but a field's is that of a portion of the concatenated key.
+abbrev pub type_is_named : SegType → Bool
+type_is_named t = is_name t.name && list_all (λ f. is_field_name f.name) t.fields
+
+abbrev pub index_is_named : IndexDef → Bool
+index_is_named i = is_name i.seg && is_name i.name && is_name i.xdfld
+
+abbrev pub names_are_kept : List ℕ → Option (List ℕ) → List SegType → List IndexDef → List PartDef → Bool
+names_are_kept name rm types indexes parts =
+    is_name name && option_map_or is_name rm true && list_all type_is_named types && list_all index_is_named indexes && list_all (λ p. is_name p.name) parts
+
+-- RMNAME: PHDAM alone has one, and without one there is one anchor point and one block
+abbrev pub module_is_kept : Bool → Option (List ℕ) → ℕ → ℕ → Bool
+module_is_kept phdam rm anch rbn = if is_some rm then phdam else (anch == 1 && rbn == 1)
+
+-- a count of 32 bits, and a key of bytes
+abbrev pub part_is_stored : PartDef → Bool
+part_is_stored p = nat_lt p.anchors 4294967296 && list_all (λ b. nat_lt b 256) p.high

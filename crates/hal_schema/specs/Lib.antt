@@ -7,6 +7,7 @@ pub mod Insertion
 pub mod Keeps
 pub mod Keys
 pub mod Lawful
+pub mod Named
 pub mod Places
 pub mod Raw
 pub mod Roots

@@ -3,7 +3,8 @@ ghost use Rattle.std.specs.List.{list_all, prefix_len};
 ghost use Rattle.std.specs.Ordering.{is_lt};
 ghost use Rattle.hal_schema.specs.Faults.{IsFault};
 ghost use Rattle.hal_schema.specs.Keys.{key_cmp};
-ghost use Rattle.hal_schema.specs.Lawful.{factors_fit, field_fits, number_fits};
+ghost use Rattle.hal_schema.specs.Lawful.{factors_fit, field_fits, number_fits, part_is_stored};
+ghost use Rattle.hal_schema.specs.Named.{dbd_is_named, parts_are_named};
 ghost use Rattle.hal_schema.specs.Raw.{anchors_of, code_of, field_of, indexes_of, key_field, part_of, parts_of, seg_type, types_of};
 ghost use Rattle.hal_schema.specs.Rules.{first_fault, sizes_broken, sizes_in};
 
@@ -13,17 +14,19 @@ use crate::{
     Field, IndexDef, KeyField, PartDef, RawDbd, RawField, RawIndex, RawPart, RawSchema, RawType,
     Schema, SchemaFault, SegType,
 };
-use hal_base::{List, Memory};
+use hal_base::{Key, List, Memory};
 use std::alloc::Global;
 
 impl Schema {
     ghost use Rattle.hal_schema.specs.Built.{IsSchemaOf};
 
     /// The schema that a definition says, where it keeps all rules; else the least rule that is broken, at the
-    /// first item that breaks it. Items are the statements by their lines, then `blocks`, then the partitions by
+    /// first item that breaks it. What the readers give has a type, and `is_named` and `are_named` hold of it. Items are the statements by their lines, then `blocks`, then the partitions by
     /// their places.
     pub fn build(alloc: Global, raw: RawSchema) -> Result<Schema, SchemaFault>
-        requires { 0 < length raw.dbd.types }
+        requires some { 0 < length raw.dbd.types }
+        requires named { IsTrue (dbd_is_named raw.dbd) }
+        requires parts_named { IsTrue (parts_are_named raw.parts) }
         ensures kept { OnOk result (first_fault raw ≡ None) }
         ensures schema { IfOk result (IsSchemaOf raw) }
         ensures broken { IfErr result (IsFault (first_fault raw)) }
@@ -157,13 +160,14 @@ pub(crate) fn build_parts(
 ) -> Result<List<PartDef>, Memory>
     requires fit { IsTrue (list_all (λ p. factors_fit dbd.now.phdam (part_of dbd.now p)) parts.now) }
     requires numbers { IsTrue (list_all (λ p. number_fits p.number) parts.now) }
-    ensures { IfOk result (λ list. list ≡ parts_of dbd.now parts.now) }
+    ensures same { IfOk result (λ list. list ≡ parts_of dbd.now parts.now) }
+    ensures stored { IfOk result (λ list. IsTrue (list_all part_is_stored list)) }
 {
     let mut list = List::new(alloc);
     let mut left = parts.len();
     while left > 0 {
         left -= 1;
-        let part = build_part(dbd, &parts[left])?;
+        let part = build_part(alloc, dbd, &parts[left])?;
         list.insert(highs_below(list.as_slice(), part.high.as_slice()), part)?;
     }
     Ok(list)
@@ -187,19 +191,31 @@ fn is_below(p: &PartDef, high: &[u8]) -> bool
     p.high.as_slice().cmp(high).is_lt()
 }
 
-fn build_part(dbd: &RawDbd, p: &RawPart) -> Result<PartDef, Memory>
+fn build_part(alloc: Global, dbd: &RawDbd, p: &RawPart) -> Result<PartDef, Memory>
     requires fit { IsTrue (factors_fit dbd.now.phdam (part_of dbd.now p.now)) }
     requires number { IsTrue (number_fits p.now.number) }
-    ensures { IfOk result (λ part. part ≡ part_of dbd.now p.now) }
+    ensures same { IfOk result (λ part. part ≡ part_of dbd.now p.now) }
+    ensures stored { IfOk result (λ part. IsTrue (part_is_stored part)) }
 {
     Ok(PartDef {
         name: p.name,
         number: p.number as u16,
-        high: p.high.copy()?,
+        high: copied(alloc, p.high.as_slice())?,
         anchors: anchors_in(dbd, p),
         fbff: p.fbff as u8,
         fspf: p.fspf as u8,
     })
+}
+
+fn copied(alloc: Global, high: &[u8]) -> Result<Key, Memory>
+    ensures same { IfOk result (λ key. key ≡ high.now) }
+    ensures bytes { IfOk result (λ key. IsTrue (list_all (λ b. nat_lt b 256) key)) }
+{
+    let mut key = Key::new(alloc);
+    for byte in high {
+        key.push(*byte)?;
+    }
+    Ok(key)
 }
 
 fn anchors_in(dbd: &RawDbd, p: &RawPart) -> u32

@@ -1,6 +1,7 @@
-ghost use Rattle.std.specs.Prelude.{◌≡◌, ◌<◌, IfErr, IfOk, None, OnOk, length};
+ghost use Rattle.std.specs.Prelude.{◌≡◌, ◌<◌, IfErr, IfOk, IsTrue, None, OnOk, length};
 ghost use Rattle.hal_schema.specs.Built.{IsSchemaOf};
 ghost use Rattle.hal_schema.specs.Faults.{IsFault};
+ghost use Rattle.hal_schema.specs.Named.{dbd_is_named, parts_are_named};
 ghost use Rattle.hal_schema.specs.Rules.{first_fault};
 
 use crate::build::{build_indexes, build_parts, build_types};
@@ -10,7 +11,9 @@ use crate::{RawSchema, Schema, SchemaFault};
 use std::alloc::Global;
 
 pub(crate) fn built(alloc: Global, raw: &RawSchema) -> Result<Schema, SchemaFault>
-    requires { 0 < length raw.now.dbd.types }
+    requires some { 0 < length raw.now.dbd.types }
+    requires named { IsTrue (dbd_is_named raw.now.dbd) }
+    requires parts_named { IsTrue (parts_are_named raw.now.parts) }
     ensures kept { OnOk result (first_fault raw.now ≡ None) }
     ensures schema { IfOk result (IsSchemaOf raw.now) }
     ensures broken { IfErr result (IsFault (first_fault raw.now)) }

@@ -8,6 +8,7 @@ mod entry_key;
 mod fault;
 mod first;
 mod judge;
+mod plain;
 mod raw;
 mod row;
 mod rules;

@@ -1,6 +1,6 @@
 ghost use Rattle.std.specs.Prelude.{IsTrue};
 ghost use Rattle.std.specs.List.{list_all};
-ghost use Rattle.hal_schema.specs.Lawful.{parents_are_before, type_names_differ, index_names_differ, part_names_differ, part_numbers_differ, field_names_differ, counts_are_kept, fields_fit, keys_are_fields, root_key_is_unique, letters_are_known, indexes_are_kept, highs_rise, part_is_kept, blocks_are_kept};
+ghost use Rattle.hal_schema.specs.Lawful.{parents_are_before, type_names_differ, index_names_differ, part_names_differ, part_numbers_differ, field_names_differ, counts_are_kept, fields_fit, keys_are_fields, root_key_is_unique, letters_are_known, indexes_are_kept, highs_rise, part_is_kept, blocks_are_kept, names_are_kept, module_is_kept, part_is_stored};
 
 use hal_base::{Key, List, Name8};
 
@@ -87,4 +87,7 @@ pub struct Schema {
     pub ghost highs: { IsTrue (highs_rise types parts) },
     pub ghost kept_parts: { IsTrue (list_all (part_is_kept phdam) parts) },
     pub ghost kept_blocks: { IsTrue (blocks_are_kept blocks) },
+    pub ghost names: { IsTrue (names_are_kept name rm types indexes parts) },
+    pub ghost module_kept: { IsTrue (module_is_kept phdam rm anch rbn) },
+    pub ghost stored_parts: { IsTrue (list_all part_is_stored parts) },
 }

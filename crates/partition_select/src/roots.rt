@@ -1,4 +1,4 @@
-ghost use Rattle.std.specs.Prelude.{◌≡◌, ◌<◌, ℕ, List};
+ghost use Rattle.std.specs.Prelude.{◌≡◌, ◌<◌, ℕ, IfSome, List, length, position};
 ghost use Rattle.std.specs.Cmp.{IsTotalOrder};
 ghost use Rattle.std.specs.Ordering.{is_le};
 ghost use Rattle.std.specs.declared.cmp.Ordering.TheVariants.{Equal};
@@ -12,10 +12,19 @@ use std::cmp::Ordering;
 pub fn select(schema: &Schema, key: &[u8]) -> Option<u16>
     ensures { result ≡ partition_of schema.now key.now }
 {
-    let parts = schema.parts.as_slice();
+    match first_reaching(schema.parts.as_slice(), key) {
+        Some(place) => Some(place as u16),
+        None => None,
+    }
+}
+
+fn first_reaching(parts: &[PartDef], key: &[u8]) -> Option<usize>
+    ensures place { result ≡ position (λ part. is_le (key_cmp key.now part.high)) parts.now }
+    ensures within { IfSome result (λ place. place < length parts.now) }
+{
     for (place, part) in parts.iter().enumerate() {
         if reaches(part, key) {
-            return Some(place as u16);
+            return Some(place);
         }
     }
     None

@@ -1,4 +1,4 @@
-use Rattle.std.proofs.Common.{◌≡◌, ◌&&◌, true, map, take}
+use Rattle.std.proofs.Common.{◌≡◌, true, map, take}
 use Rattle.std.specs.List.{list_all}
 use Rattle.hal_base.specs.Name.{is_field_name, upper}
 use Rattle.dbd_reader.proofs.field_value.fields_of.Given as goal

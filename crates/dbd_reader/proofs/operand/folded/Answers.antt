@@ -1,4 +1,4 @@
-use Rattle.std.proofs.Common.{false, arith}
+use Rattle.std.proofs.Common.{false}
 use Rattle.dbd_reader.specs.Operands.{folded}
 use Rattle.dbd_reader.proofs.OperandText.{folded_on, folded_end}
 use Rattle.dbd_reader.proofs.operand.folded.Goals as goal

@@ -1,31 +1,20 @@
-use Rattle.std.proofs.Common.{Ok, refl, sym, ◌∙◌, ap, arith}
-use Rattle.std.proofs.lemmas.Result.{err_from_is_err_and}
-use Rattle.dbd_reader.proofs.Whole.{under_start, under_next, ends, fails, stops}
+use Rattle.std.proofs.Common.{◌≤◌, length}
+use Rattle.std.proofs.lemmas.Result.{IfOk-weaker}
+use Rattle.dbd_reader.specs.Definition.{meaning_of}
+use Rattle.dbd_reader.proofs.Kept.{IsWhole, whole, within, of_read}
 use Rattle.dbd_reader.proofs.reading.read_dbd.Goals as goal
 
-pub loop-draft-init : goal.loop-draft-init
-loop-draft-init c = under_start c.args.text.now
+pub returns-clause-types : goal.returns-clause-types
+returns-clause-types c =
+    let text = c.args.text.now in
+    IfOk-weaker c.read_text.result IsWhole _ (λ read h. h.1) (of_read IsWhole c.read_text.result (meaning_of text) c.read_text.ensures (whole text))
 
-pub returns-in_err-next : goal.returns-in_err-next
-returns-in_err-next c =
-    let s = c.loop-draft in
-    let p = err_from_is_err_and c.from_residual-in_err-next.result c.from_residual-in_err-next.ensures.1 in
-    rw (p.1, p.2) (fails c.in_err-next.field-0.0 c.args.text.now s.draft s.line s.rest.now c.in-Some.statement c.in-Some.behind.now s.invariant (rw c.in-Some.is at c.in_ok-statement.ensures.whole) c.in_err-next.ensures)
+pub returns-clause-named : goal.returns-clause-named
+returns-clause-named c =
+    let text = c.args.text.now in
+    IfOk-weaker c.read_text.result IsWhole _ (λ read h. h.0) (of_read IsWhole c.read_text.result (meaning_of text) c.read_text.ensures (whole text))
 
-pub returns-in-Ended : goal.returns-in-Ended
-returns-in-Ended c =
-    let s = c.loop-draft in
-    ends c.args.text.now s.draft s.line s.rest.now c.in-Some.statement c.in-Some.behind.now c.in-Ended.dbd _ s.invariant (rw c.in-Some.is at c.in_ok-statement.ensures.whole)
-    ((rw c.in-Some.is at c.in_ok-statement.ensures.behind) c.args.text.now s.invariant.behind) (c.in_ok-next.ensures ∙ ap Ok c.in-Ended.is) refl
-
-pub loop-draft-preserved : goal.loop-draft-preserved
-loop-draft-preserved c =
-    let s = c.loop-draft in
-    under_next c.args.text.now s.draft s.line s.rest.now c.in-Some.statement c.in-Some.behind.now _ s.invariant (rw c.in-Some.is at c.in_ok-statement.ensures.whole)
-    ((rw c.in-Some.is at c.in_ok-statement.ensures.behind) c.args.text.now s.invariant.behind) (rw c.in-Some.is at c.in_ok-statement.ensures.few)
-    (let shorter = rw c.in-Some.is at c.in_ok-statement.ensures.shorter in omega arith) c.in_ok-next.ensures (λ dbd h. c.in_default-2.not-Ended dbd h)
-
-pub returns : goal.returns
-returns c =
-    let s = c.loop-draft in
-    stops c.args.text.now s.draft s.line s.rest.now c.line_behind.result s.invariant (rw c.in_default.is at c.in_ok-statement.ensures.whole) c.line_behind.ensures
+pub returns-clause-within : goal.returns-clause-within
+returns-clause-within c =
+    let text = c.args.text.now in
+    of_read (λ read. read.1 ≤ length text) c.read_text.result (meaning_of text) c.read_text.ensures (within text)

@@ -1,6 +1,5 @@
 use Rattle.std.proofs.Common.{sym, ◌∙◌, arith, eqb-true, length}
 use Rattle.std.specs.Str.Lines.{lines}
-use Rattle.dbd_reader.specs.Statements.{statements}
 use Rattle.dbd_reader.proofs.FirstLine.{behind_next, no_lines}
 use Rattle.dbd_reader.proofs.NextLine.{goes_on_taken, ends_here, ends_with_text}
 use Rattle.dbd_reader.proofs.statement.continued.Goals as goal

@@ -1,6 +1,5 @@
 use Rattle.std.proofs.Common.{sym, ◌∙◌, arith, eqb-true, length, refl}
 use Rattle.std.specs.Str.Lines.{lines}
-use Rattle.dbd_reader.specs.Statements.{statements}
 use Rattle.dbd_reader.proofs.FirstLine.{behind_next, no_lines}
 use Rattle.dbd_reader.proofs.NextLine.{passes, begins, none_left}
 use Rattle.dbd_reader.proofs.statement.next_statement.Goals as goal
