@@ -8,7 +8,6 @@ pub mod Numbered
 pub mod Pieces
 pub mod RootCase
 pub mod WordLemmas
-pub mod ReadDbd
 pub mod Commands
 pub mod Walks
 pub mod Levels

@@ -1,6 +1,7 @@
 // `define`: takes the texts of a definition in, and checks them.
 ghost use Rattle.std.specs.Prelude.{◌≡◌, ◌≤◌, ◌<◌, ◌-◌, ◌^◌, ◌⊎◌, Some, Ok, Err, IfOk, IsTrue, length};
 ghost use Rattle.hal_base.specs.Fault.{Rose};
+ghost use Rattle.hal_schema.specs.Named.{dbd_is_named, parts_are_named};
 ghost use Rattle.hal_desk.specs.Define.{RanDefine, answer_of, checked_line, definition_of, judged, place_words, refused_line};
 ghost use Rattle.hal_desk.specs.Script.{limit, outside};
 
@@ -66,7 +67,9 @@ fn answer_to(alloc: Global, text: &[u8]) -> Result<Answer, Memory>
 
 /// Looks at the rules of definitions.
 fn judged(alloc: Global, raw: RawSchema) -> Result<Answer, Memory>
-    requires { 0 < length raw.dbd.types }
+    requires types { 0 < length raw.dbd.types }
+    requires named { IsTrue (dbd_is_named raw.dbd) }
+    requires parts_named { IsTrue (parts_are_named raw.parts) }
     ensures { IfOk result (λ answer. answer ≡ answer_of (judged (Ok raw))) }
 {
     let line = checked_line(alloc, &raw)?;

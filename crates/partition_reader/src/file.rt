@@ -1,4 +1,6 @@
 // The whole file.
+ghost use Rattle.std.specs.Prelude.{IfOk, IsTrue};
+ghost use Rattle.hal_schema.specs.Named.{parts_are_named};
 ghost use Rattle.dbd_reader.specs.Definition.{Says};
 ghost use Rattle.partition_reader.specs.Partitions.{partitions_of};
 
@@ -7,13 +9,8 @@ use dbd_reader::TextFault;
 use hal_schema::RawParts;
 use std::alloc::Global;
 
-/// Reads a partition file: the raw definitions of its partitions in the order of the file, whose own rules
-/// aren't looked at yet.
-///
-/// The first table that breaks a rule is said by its place, which counts the partitions from 1; 0 is the file's
-/// own table.
 #[tactic(auto, unfolding(crate::specs::Partitions::partitions_of, crate::specs::Partitions::toml_of))]
-pub fn read_partitions(alloc: Global, text: &[u8]) -> Result<RawParts, TextFault>
+fn read_text(alloc: Global, text: &[u8]) -> Result<RawParts, TextFault>
     ensures { Says result (partitions_of text.now) }
 {
     let Ok(text) = str::from_utf8(text) else {
@@ -24,4 +21,17 @@ pub fn read_partitions(alloc: Global, text: &[u8]) -> Result<RawParts, TextFault
         Err(fault) if fault.is_memory() => Err(TextFault::Memory),
         Err(_) => Err(TextFault::Rule { rule: 21, line: 0 }),
     }
+}
+
+/// Reads a partition file: the raw definitions of its partitions in the order of the file, whose own rules
+/// aren't looked at yet.
+///
+/// The first table that breaks a rule is said by its place, which counts the partitions from 1; 0 is the file's
+/// own table.
+pub fn read_partitions(alloc: Global, text: &[u8]) -> Result<RawParts, TextFault>
+    ensures says { Says result (partitions_of text.now) }
+    // The names that a file says are plain.
+    ensures named { IfOk result (λ parts. IsTrue (parts_are_named parts)) }
+{
+    read_text(alloc, text)
 }
