@@ -20,7 +20,7 @@ flipped Less p e h =
 flipped Equal p e h = refl
 flipped Greater p e h = refl
 
-not_below : (a b : List ℕ) → is_lt (key_cmp a b) ≡ true → is_lt (key_cmp b a) ≡ false
+pub not_below : (a b : List ℕ) → is_lt (key_cmp a b) ≡ true → is_lt (key_cmp b a) ≡ false
 not_below a b h = flipped (key_cmp b a) (key_cmp a b) (nat_list_cmp_total.antisymm a b) h
 
 put_first : (x y : PartDef) (more : List PartDef) → high_below x y ≡ true → put_in_order high_below x (y ∷ more) ≡ x ∷ y ∷ more
