@@ -1,0 +1,8 @@
+use Rattle.std.proofs.Common.{arith}
+use Rattle.definition_text.proofs.PrintedSchema.{schema_printed}
+use Rattle.definition_text.proofs.TextRead.{dbd_read_back}
+use Rattle.definition_text.proofs.print.print_dbd.Goals as goal
+
+pub returns-clause-reads_back : goal.returns-clause-reads_back
+returns-clause-reads_back c plain rest =
+    rw c.in_ok-text.ensures (dbd_read_back c.args.schema.now rest (schema_printed c.args.schema.now plain (omega arith) (omega arith)))
