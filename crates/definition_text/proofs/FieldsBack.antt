@@ -1,8 +1,8 @@
 -- The fields that the canonical text of a type says are its fields, with its sequence field among them.
-use Rattle.std.proofs.Common.{◌≡◌, ℕ, ◌+◌, ◌≤◌, ◌<◌, ◌==◌, Bool, true, false, ◌&&◌, ◌||◌, not, nat_lt, nat_le, cond, List, [], ◌∷◌, map, Option, None, Some, refl, sym, ap, arith, ◌∙◌}
+use Rattle.std.proofs.Common.{◌≡◌, ℕ, ◌+◌, ◌==◌, Bool, true, false, ◌&&◌, ◌||◌, not, nat_lt, nat_le, List, [], ◌∷◌, map, Option, None, Some, refl, sym, ap, arith, ◌∙◌}
 use Rattle.std.specs.List.{list_all, list_any, find}
 use Rattle.std.specs.Option.{option_map, option_map_or}
-use Rattle.std.proofs.lemmas.Bool.{and_parts, and_from, and_right, or_cases, or_left, or_from, not_from_false, cond_both, false≢true, eqb-true, leb-true, le-ltb, not-true}
+use Rattle.std.proofs.lemmas.Bool.{and_parts, and_from, and_right, or_left, or_from, not_from_false, cond_both, false≢true, eqb-true, leb-true, le-ltb, not-true}
 use Rattle.hal_schema.specs.declared.raw.RawField.{RawField}
 use Rattle.hal_schema.specs.declared.schema.Field.{Field}
 use Rattle.hal_schema.specs.declared.schema.KeyField.{KeyField}

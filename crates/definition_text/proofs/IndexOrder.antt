@@ -1,23 +1,20 @@
 -- The indexes stand in the text behind their targets, and so in the order of the schema.
-use Rattle.std.proofs.Common.{◌≡◌, ℕ, zero, suc, ◌+◌, ◌≤◌, ◌<◌, ◌==◌, Bool, true, false, ◌&&◌, ◌||◌, not, nat_lt, nat_le, cond, List, [], ◌∷◌, ◌++◌, length, map, filter, Option, None, Some, slice_get, ◌⊎◌, ⊎_elim, refl, sym, ap, arith, ◌∙◌, length-append}
+use Rattle.std.proofs.Common.{◌≡◌, ℕ, zero, suc, ◌+◌, ◌≤◌, ◌<◌, ◌==◌, Bool, true, false, ◌&&◌, nat_lt, nat_le, cond, List, [], ◌∷◌, ◌++◌, length, filter, Option, None, Some, slice_get, ⊎_elim, refl, sym, ap, arith, ◌∙◌}
 use Rattle.std.specs.Prelude.{filter_map, option_and_then}
 use Rattle.std.specs.List.{list_all, list_any, enumerate_from, cons_option}
 use Rattle.std.specs.Option.{option_map_or}
-use Rattle.std.specs.Str.{bytes_eq}
-use Rattle.std.proofs.lemmas.Bool.{and_parts, and_from, or_cases, false≢true, true≢false, eqb-true, leb-true, le-leb, le-ltb, ltb-true, eq-eqb, ne_eqb, both_ways, cases_lt, lt-ltb}
+use Rattle.std.proofs.lemmas.Bool.{and_parts, and_from, or_cases, false≢true, true≢false, eqb-true, leb-true, le-leb, le-ltb, ltb-true, eq-eqb, ne_eqb, cases_lt, lt-ltb}
 use Rattle.std.proofs.lemmas.List.Elements.{filter_map-append}
-use Rattle.std.proofs.lemmas.Option.{none-some, same_Some, slice_get_within}
-use Rattle.std.proofs.lemmas.Slice.Eq.{bytes_eq-Decides}
-use Rattle.hal_schema.specs.declared.raw.RawIndex.{RawIndex}
+use Rattle.std.proofs.lemmas.Option.{none-some, slice_get_within}
 use Rattle.hal_schema.specs.declared.schema.IndexDef.{IndexDef}
 use Rattle.hal_schema.specs.declared.schema.SegType.{SegType}
-use Rattle.hal_schema.specs.SegType.{type_of, parent_of, ancestry, ancestry_within}
+use Rattle.hal_schema.specs.SegType.{parent_of, ancestry_within}
 use Rattle.hal_schema.specs.Lawful.{all_rise, is_below_first, parent_is_before, index_is_kept}
 use Rattle.hal_schema.specs.Raw.{code_named, index_of, indexes_of, put_in_order, in_order, target_below}
 use Rattle.definition_printer.specs.Dbd.{fields_text, index_text}
 use Rattle.definition_text.specs.RawDbd.{lines_in, behind_segm, raw_index, raw_over, raw_indexes}
 use Rattle.definition_text.proofs.TypesBack.{before_next, line_behind, named_back}
-use Rattle.definition_text.proofs.IndexesBack.{AreKnown, HasSource, source_of, index_back, place_at, weaker}
+use Rattle.definition_text.proofs.IndexesBack.{AreKnown, source_of, index_back, place_at, weaker}
 
 -- the indexes of one target
 abbrev pub over : ℕ → List IndexDef → List IndexDef
@@ -40,7 +37,7 @@ cons_ap : {X : Type 0} (o : Option X) (x : X) (xs ys : List X) → o ≡ Some x 
 cons_ap {X = X} o x xs ys e h = ap (λ (o : Option X). cons_option o xs) e ∙ ap (λ (zs : List X). x ∷ zs) h
 
 over_back : (types : List SegType) (code line : ℕ) (name : List ℕ) (indexes : List IndexDef) → AreKnown types → code_named types name ≡ Some code → list_all (index_is_kept types) indexes ≡ true
-        → filter_map (index_of types) (raw_over types code name line indexes) ≡ over code indexes
+    → filter_map (index_of types) (raw_over types code name line indexes) ≡ over code indexes
 over_back types code line name [] known is kept = refl
 over_back types code line name (i ∷ more) known is kept =
     let (here, later) = and_parts (index_is_kept types i) (list_all (index_is_kept types) more) kept in
@@ -67,7 +64,7 @@ codes_rest types code t ts codes k u e =
     codes (suc k) u e ∙ ap (λ (n : ℕ). Some n) same
 
 groups_back : (types : List SegType) (indexes : List IndexDef) (code line : ℕ) (ts : List SegType) → AreKnown types → HasCodes types code ts → list_all (index_is_kept types) indexes ≡ true
-        → filter_map (index_of types) (raw_indexes types indexes code line ts) ≡ groups code ts indexes
+    → filter_map (index_of types) (raw_indexes types indexes code line ts) ≡ groups code ts indexes
 groups_back types indexes code line [] known codes kept = refl
 groups_back types indexes code line (t ∷ more) known codes kept =
     let at = indexes_line types line t in
@@ -172,7 +169,7 @@ parent_before types (suc k) p before e = by (slice_get types k) refl e
         (ltb-true 0 p some, omega (arith, lt))
 
 above_is : (types : List SegType) (most code target : ℕ) → list_all before_next (enumerate_from 1 types) ≡ true → 0 < code → code ≤ length types
-        → list_any (λ (c : ℕ). c == target) (ancestry_within most (parent_of types) code) ≡ true → IsCode types target
+    → list_any (λ (c : ℕ). c == target) (ancestry_within most (parent_of types) code) ≡ true → IsCode types target
 above_is types zero code target before some within h = absurd (false≢true h)
 above_is types (suc most) code target before some within h =
     ⊎_elim here (λ later. up (parent_of types code) refl (λ p e f. let (low, high) = parent_before types code p before e in above_is types most p target before low (omega (arith, high, within)) f) later)
@@ -206,6 +203,6 @@ pub groups_same : (types : List SegType) (indexes : List IndexDef) → AreKnown 
 groups_same types indexes known kept rise = groups_all types indexes rise (weaker (index_is_kept types) (in_range types) (λ i h. range_of types i known h) indexes kept)
 
 pub indexes_back : (types : List SegType) (indexes : List IndexDef) (line : ℕ) → AreKnown types → list_all (index_is_kept types) indexes ≡ true → all_rise no_lower indexes ≡ true
-        → indexes_of types (raw_indexes types indexes 1 line types) ≡ indexes
+    → indexes_of types (raw_indexes types indexes 1 line types) ≡ indexes
 indexes_back types indexes line known kept rise =
     ap (in_order target_below) (groups_back types indexes 1 line types known (codes_of types known) kept ∙ groups_same types indexes known kept rise) ∙ in_place indexes rise

@@ -1,23 +1,21 @@
 -- The indexes that the canonical text says are those of the schema, in its order.
-use Rattle.std.proofs.Common.{◌≡◌, ℕ, zero, suc, ◌+◌, ◌≤◌, ◌<◌, ◌==◌, Bool, true, false, ◌&&◌, ◌||◌, not, nat_lt, nat_le, cond, List, [], ◌∷◌, ◌++◌, length, map, filter, Option, None, Some, slice_get, get_or, ◌⊎◌, ⊎_elim, refl, sym, ap, arith, ◌∙◌, inl, inr, sum_by}
-use Rattle.std.specs.Prelude.{filter_map, option_and_then}
-use Rattle.std.specs.List.{list_all, list_any, find, enumerate_from, cons_option}
+use Rattle.std.proofs.Common.{◌≡◌, ℕ, zero, suc, ◌+◌, ◌==◌, Bool, true, false, ◌&&◌, ◌||◌, not, nat_le, cond, List, [], ◌∷◌, length, map, Option, None, Some, slice_get, ◌⊎◌, ⊎_elim, refl, sym, ap, arith, ◌∙◌, inl, inr, sum_by}
+use Rattle.std.specs.Prelude.{option_and_then}
+use Rattle.std.specs.List.{list_all, list_any, find, enumerate_from}
 use Rattle.std.specs.Option.{option_map, option_map_or}
 use Rattle.std.specs.Str.{bytes_eq}
-use Rattle.std.proofs.lemmas.Bool.{and_parts, and_from, or_parts, or_cases, or_from, or_right, not-true, not_from_false, true≢false, false≢true, eqb-true, leb-true, le-leb, le-ltb, ltb-true}
-use Rattle.std.proofs.lemmas.List.Folds.{list_any-append}
-use Rattle.std.proofs.lemmas.Option.{none-some, same_Some, slice_get_within}
+use Rattle.std.proofs.lemmas.Bool.{and_parts, and_from, or_cases, or_right, not-true, true≢false, false≢true, eqb-true}
+use Rattle.std.proofs.lemmas.Option.{none-some, same_Some}
 use Rattle.std.proofs.lemmas.Slice.Eq.{bytes_eq-Decides}
-use Rattle.hal_schema.specs.declared.raw.RawIndex.{RawIndex}
 use Rattle.hal_schema.specs.declared.schema.Field.{Field}
 use Rattle.hal_schema.specs.declared.schema.IndexDef.{IndexDef}
 use Rattle.hal_schema.specs.declared.schema.SegType.{SegType}
-use Rattle.hal_schema.specs.SegType.{type_of, parent_of, ancestry, ancestry_within, path_key_bytes}
-use Rattle.hal_schema.specs.Lawful.{all_differ, all_rise, is_below_first, parent_is_before, same_field, fields_are_kept, index_is_kept, is_key_portion, is_within}
-use Rattle.hal_schema.specs.Raw.{code_named, fields_named, index_of, put_in_order, in_order, target_below}
-use Rattle.definition_printer.specs.Dbd.{name_of, fields_text, index_text}
-use Rattle.definition_text.specs.RawDbd.{lines_in, behind_segm, raw_index, raw_over, raw_indexes}
-use Rattle.definition_text.proofs.TypesBack.{NamesDiffer, before_next, line_behind, named_back}
+use Rattle.hal_schema.specs.SegType.{type_of, parent_of, ancestry, path_key_bytes}
+use Rattle.hal_schema.specs.Lawful.{all_differ, same_field, fields_are_kept, index_is_kept, is_key_portion, is_within}
+use Rattle.hal_schema.specs.Raw.{code_named, fields_named, index_of}
+use Rattle.definition_printer.specs.Dbd.{name_of}
+use Rattle.definition_text.specs.RawDbd.{raw_index}
+use Rattle.definition_text.proofs.TypesBack.{NamesDiffer, before_next, named_back}
 
 -- ---- lists
 

@@ -1,15 +1,14 @@
 -- The names and counts of what the canonical text says break no rule.
-use Rattle.std.proofs.Common.{◌≡◌, ℕ, zero, suc, ◌+◌, ◌≤◌, ◌<◌, ◌==◌, Bool, true, false, ◌&&◌, ◌||◌, not, nat_lt, nat_le, cond, List, [], ◌∷◌, ◌++◌, length, map, filter, Option, None, Some, slice_get, refl, sym, ap, arith, ◌∙◌}
-use Rattle.std.specs.List.{list_all, list_any, flat_map, enumerate_from}
+use Rattle.std.proofs.Common.{◌≡◌, ℕ, zero, suc, ◌+◌, ◌≤◌, ◌==◌, Bool, true, false, nat_lt, nat_le, cond, List, [], ◌∷◌, ◌++◌, length, map, filter, Option, Some, slice_get, refl, sym, ap, arith, ◌∙◌}
+use Rattle.std.specs.List.{list_all, flat_map, enumerate_from}
 use Rattle.std.specs.Option.{option_map_or}
 use Rattle.std.specs.Str.{bytes_eq}
-use Rattle.std.proofs.lemmas.Bool.{and_parts, and_from, true≢false, eqb-true, leb-true, le-leb, le-ltb, eq-eqb}
+use Rattle.std.proofs.lemmas.Bool.{and_parts, and_from, eqb-true, leb-true, le-ltb, eq-eqb}
 use Rattle.std.proofs.lemmas.List.{map-append, length-map}
 use Rattle.std.proofs.lemmas.List.Elements.{filter-append}
 use Rattle.std.proofs.lemmas.List.Folds.{list_all-append}
-use Rattle.std.proofs.lemmas.Option.{none-some, same_Some}
+use Rattle.std.proofs.lemmas.Option.{same_Some}
 use Rattle.std.proofs.lemmas.Slice.Eq.{bytes_eq-Decides}
-use Rattle.hal_schema.specs.declared.fault.Place.{Place}
 use Rattle.hal_schema.specs.declared.rules.names.Named.{Named}
 use Rattle.hal_schema.specs.declared.raw.RawField.{RawField}
 use Rattle.hal_schema.specs.declared.raw.RawIndex.{RawIndex}
@@ -18,23 +17,22 @@ use Rattle.hal_schema.specs.declared.schema.Field.{Field}
 use Rattle.hal_schema.specs.declared.schema.IndexDef.{IndexDef}
 use Rattle.hal_schema.specs.declared.schema.SegType.{SegType}
 use Rattle.hal_schema.specs.SegType.{level_of}
-use Rattle.hal_schema.specs.Lawful.{all_differ, all_rise, index_is_kept}
+use Rattle.hal_schema.specs.Lawful.{all_differ, index_is_kept}
 use Rattle.hal_schema.specs.Places.{statement, when, passing}
 use Rattle.hal_schema.specs.Raw.{code_named, field_of, index_of, types_of}
-use Rattle.hal_schema.specs.Rules.{names_twice, type_name, index_name, fields_of, xdflds_of, field_names, indexes_broken}
-use Rattle.definition_printer.specs.Dbd.{index_text}
-use Rattle.definition_text.specs.RawDbd.{lines_in, behind_segm, raw_fields, raw_type, raw_types, raw_index, raw_over, raw_indexes}
+use Rattle.hal_schema.specs.Rules.{names_twice, type_name, index_name, fields_of, field_names, indexes_broken}
+use Rattle.definition_text.specs.RawDbd.{behind_segm, raw_fields, raw_type, raw_types, raw_index, raw_over, raw_indexes}
 use Rattle.definition_text.proofs.FieldsBack.{fields_back}
-use Rattle.definition_text.proofs.TypesBack.{NamesDiffer, line_behind, raws_length, named_back}
+use Rattle.definition_text.proofs.TypesBack.{NamesDiffer, line_behind, raws_length}
 use Rattle.definition_text.proofs.IndexesBack.{AreKnown, names, index_back}
-use Rattle.definition_text.proofs.IndexOrder.{over, groups, indexes_line, index_behind, HasCodes, codes_first, codes_rest, codes_of, groups_same}
+use Rattle.definition_text.proofs.IndexOrder.{over, groups, indexes_line, index_behind, HasCodes, codes_first, codes_rest, codes_of}
 use Rattle.definition_text.proofs.NoPlaces.{both_none, never, none_fails, names_none, passing_none, map_map}
 use Rattle.definition_text.proofs.TypeRules.{raws_same, each_raw, each_numbered}
 
 -- ---- raw indexes, one by one
 
 over_same : {X : Type 0} (F : RawIndex → X) (G : IndexDef → X) (types : List SegType) → ((target : List ℕ) (line : ℕ) (i : IndexDef) → F (raw_index types target line i) ≡ G i)
-        → (code line : ℕ) (name : List ℕ) (indexes : List IndexDef) → map F (raw_over types code name line indexes) ≡ map G (over code indexes)
+    → (code line : ℕ) (name : List ℕ) (indexes : List IndexDef) → map F (raw_over types code name line indexes) ≡ map G (over code indexes)
 over_same F G types each code line name [] = refl
 over_same {X = X} F G types each code line name (i ∷ more) = by (i.target == code) (over_same F G types each code (index_behind types line i) name more) (over_same F G types each code line name more)
   where
@@ -44,7 +42,7 @@ over_same {X = X} F G types each code line name (i ∷ more) = by (i.target == c
     by false next same = same
 
 groups_map : {X : Type 0} (F : RawIndex → X) (G : IndexDef → X) (types : List SegType) (indexes : List IndexDef) → ((target : List ℕ) (line : ℕ) (i : IndexDef) → F (raw_index types target line i) ≡ G i)
-        → (code line : ℕ) (ts : List SegType) → map F (raw_indexes types indexes code line ts) ≡ map G (groups code ts indexes)
+    → (code line : ℕ) (ts : List SegType) → map F (raw_indexes types indexes code line ts) ≡ map G (groups code ts indexes)
 groups_map F G types indexes each code line [] = refl
 groups_map {X = X} F G types indexes each code line (t ∷ more) =
     let at = indexes_line types line t in
@@ -68,7 +66,7 @@ type_names_apart types indexes line d =
     names_none (map type_name raws) (map (λ (t : SegType). t.name) types) (map_map (λ (n : Named). n.name) type_name raws ∙ raws_same (λ (r : RawType). r.name) (λ (t : SegType). t.name) types indexes (λ at t. refl) 1 line types) d
 
 pub index_names_apart : (types : List SegType) (indexes : List IndexDef) (line : ℕ) → groups 1 types indexes ≡ indexes → all_differ bytes_eq (map (λ (i : IndexDef). i.name) indexes) ≡ true
-        → names_twice (map index_name (raw_indexes types indexes 1 line types)) ≡ []
+    → names_twice (map index_name (raw_indexes types indexes 1 line types)) ≡ []
 index_names_apart types indexes line same d =
     let raws = raw_indexes types indexes 1 line types in
     names_none (map index_name raws) (map (λ (i : IndexDef). i.name) indexes)
@@ -89,7 +87,7 @@ map_cond false r rs i is e h = h
 
 -- the indexes over one type, found by its name in the text and by its code in the schema
 over_picked : (types : List SegType) (code target line : ℕ) (name other : List ℕ) (indexes : List IndexDef) → bytes_eq name other ≡ (code == target)
-        → map raw_xdfld (targets other (raw_over types code name line indexes)) ≡ map xdfld (over target (over code indexes))
+    → map raw_xdfld (targets other (raw_over types code name line indexes)) ≡ map xdfld (over target (over code indexes))
 over_picked types code target line name other [] e = refl
 over_picked types code target line name other (i ∷ more) e =
     by (i.target == code) refl (over_picked types code target (index_behind types line i) name other more e) (over_picked types code target line name other more e)
@@ -110,7 +108,7 @@ abbrev NamedAt : List ℕ → ℕ → ℕ → List SegType → Type 0
 NamedAt name target code ts = (k : ℕ) (t : SegType) → slice_get ts k ≡ Some t → bytes_eq t.name name ≡ (code + k == target)
 
 groups_picked : (types : List SegType) (indexes : List IndexDef) (target : ℕ) (other : List ℕ) (code line : ℕ) (ts : List SegType) → NamedAt other target code ts
-        → map raw_xdfld (targets other (raw_indexes types indexes code line ts)) ≡ map xdfld (over target (groups code ts indexes))
+    → map raw_xdfld (targets other (raw_indexes types indexes code line ts)) ≡ map xdfld (over target (groups code ts indexes))
 groups_picked types indexes target other code line [] at = refl
 groups_picked types indexes target other code line (t ∷ more) at =
     let place = indexes_line types line t in
@@ -148,7 +146,7 @@ named_at types k t known e j u f = either_way (bytes_eq u.name t.name) (1 + j ==
         (bytes_eq-Decides u.name t.name).1 (ap (λ (v : SegType). v.name) type)
 
 only_names : (fields : List RawField) (indexes : List RawIndex) → map (λ (n : Named). n.name) (fields_of fields ++ map (λ (i : RawIndex). record { name = i.xdfld; place = statement i.line }) indexes)
-        ≡ map (λ (f : RawField). f.name) fields ++ map raw_xdfld indexes
+    ≡ map (λ (f : RawField). f.name) fields ++ map raw_xdfld indexes
 only_names fields indexes =
     let of_field : RawField → Named = λ f. record { name = f.name; place = statement f.line } in
     let of_index : RawIndex → Named = λ i. record { name = i.xdfld; place = statement i.line } in
@@ -169,15 +167,15 @@ abbrev names_apart : List IndexDef → ℕ × SegType → Bool
 names_apart indexes t = all_differ bytes_eq (names t.1.fields ++ map xdfld (over t.0 indexes))
 
 type_apart : (types : List SegType) (indexes : List IndexDef) (raws : List RawIndex) (line : ℕ) (code : ℕ) (t : SegType) → map raw_xdfld (targets t.name raws) ≡ map xdfld (over code indexes) → names_apart indexes (code, t) ≡ true
-        → names_twice (field_names raws (raw_type types line t)) ≡ []
+    → names_twice (field_names raws (raw_type types line t)) ≡ []
 type_apart types indexes raws line code t same apart =
     let fields = raw_fields t.key (behind_segm types line t) t.fields in
     names_none (field_names raws (raw_type types line t)) (names t.fields ++ map xdfld (over code indexes))
     (only_names fields (targets t.name raws) ∙ ap (λ (ns : List (List ℕ)). ns ++ map raw_xdfld (targets t.name raws)) (raw_field_names types line t) ∙ ap (λ (ns : List (List ℕ)). names t.fields ++ ns) same) apart
 
 from_place : (types : List SegType) (indexes : List IndexDef) (raws : List RawIndex) (from code line : ℕ) (ts : List SegType)
-        → ((k : ℕ) (t : SegType) → slice_get ts k ≡ Some t → map raw_xdfld (targets t.name raws) ≡ map xdfld (over (code + k) indexes)) → list_all (names_apart indexes) (enumerate_from code ts) ≡ true
-        → flat_map (λ (r : RawType). names_twice (field_names raws r)) (raw_types types indexes code line ts) ≡ []
+    → ((k : ℕ) (t : SegType) → slice_get ts k ≡ Some t → map raw_xdfld (targets t.name raws) ≡ map xdfld (over (code + k) indexes)) → list_all (names_apart indexes) (enumerate_from code ts) ≡ true
+    → flat_map (λ (r : RawType). names_twice (field_names raws r)) (raw_types types indexes code line ts) ≡ []
 from_place types indexes raws from code line [] same apart = refl
 from_place types indexes raws from code line (t ∷ more) same apart =
     let (here, later) = and_parts (names_apart indexes (code, t)) (list_all (names_apart indexes) (enumerate_from (code + 1) more)) apart in
@@ -188,7 +186,7 @@ from_place types indexes raws from code line (t ∷ more) same apart =
     (from_place types indexes raws from (code + 1) behind more (λ k u e. (let next : code + suc k ≡ code + 1 + k = omega arith in same (suc k) u e ∙ ap (λ (n : ℕ). map xdfld (over n indexes)) next)) later)
 
 pub fields_apart : (types : List SegType) (indexes : List IndexDef) (line : ℕ) → AreKnown types → groups 1 types indexes ≡ indexes → list_all (names_apart indexes) (enumerate_from 1 types) ≡ true
-        → flat_map (λ (r : RawType). names_twice (field_names (raw_indexes types indexes 1 line types) r)) (raw_types types indexes 1 line types) ≡ []
+    → flat_map (λ (r : RawType). names_twice (field_names (raw_indexes types indexes 1 line types) r)) (raw_types types indexes 1 line types) ≡ []
 fields_apart types indexes line known same apart =
     from_place types indexes (raw_indexes types indexes 1 line types) 1 1 line types
     (λ k t e. groups_picked types indexes (1 + k) t.name 1 line types (named_at types k t known e) ∙ ap (λ (is : List IndexDef). map xdfld (over (1 + k) is)) same) apart
@@ -210,11 +208,11 @@ abbrev low_level : List SegType → ℕ × SegType → Bool
 low_level types t = nat_le (level_of types t.0) 15
 
 pub counts_kept : (types : List SegType) (indexes : List IndexDef) (line : ℕ) → types_of (raw_types types indexes 1 line types) ≡ types → groups 1 types indexes ≡ indexes
-        → length types ≤ 255 → list_all (low_level types) (enumerate_from 1 types) ≡ true → list_all few_fields types ≡ true → length indexes ≤ 16
-        → passing 255 (map (λ (t : RawType). statement t.line) (raw_types types indexes 1 line types))
-          ++ flat_map (λ (t : ℕ × RawType). when (nat_lt 15 (level_of (types_of (raw_types types indexes 1 line types)) t.0)) (statement t.1.line)) (enumerate_from 1 (raw_types types indexes 1 line types))
-          ++ flat_map (λ (t : RawType). passing 255 (map (λ (f : RawField). statement f.line) t.fields)) (raw_types types indexes 1 line types)
-          ++ passing 16 (map (λ (i : RawIndex). statement i.line) (raw_indexes types indexes 1 line types)) ≡ []
+    → length types ≤ 255 → list_all (low_level types) (enumerate_from 1 types) ≡ true → list_all few_fields types ≡ true → length indexes ≤ 16
+    → passing 255 (map (λ (t : RawType). statement t.line) (raw_types types indexes 1 line types))
+    ++ flat_map (λ (t : ℕ × RawType). when (nat_lt 15 (level_of (types_of (raw_types types indexes 1 line types)) t.0)) (statement t.1.line)) (enumerate_from 1 (raw_types types indexes 1 line types))
+    ++ flat_map (λ (t : RawType). passing 255 (map (λ (f : RawField). statement f.line) t.fields)) (raw_types types indexes 1 line types)
+    ++ passing 16 (map (λ (i : RawIndex). statement i.line) (raw_indexes types indexes 1 line types)) ≡ []
 counts_kept types indexes line back same few low fields some =
     let raws = raw_types types indexes 1 line types in
     let over_raws = raw_indexes types indexes 1 line types in
@@ -240,7 +238,7 @@ abbrev is_index : List SegType → RawIndex → Bool
 is_index types r = option_map_or (index_is_kept types) (index_of types r) false
 
 over_are : (types : List SegType) (code line : ℕ) (name : List ℕ) (indexes : List IndexDef) → AreKnown types → code_named types name ≡ Some code → list_all (index_is_kept types) indexes ≡ true
-        → list_all (is_index types) (raw_over types code name line indexes) ≡ true
+    → list_all (is_index types) (raw_over types code name line indexes) ≡ true
 over_are types code line name [] known is kept = refl
 over_are types code line name (i ∷ more) known is kept =
     let (here, later) = and_parts (index_is_kept types i) (list_all (index_is_kept types) more) kept in
@@ -254,7 +252,7 @@ over_are types code line name (i ∷ more) known is kept =
     by false e here next same = same
 
 groups_are : (types : List SegType) (indexes : List IndexDef) (code line : ℕ) (ts : List SegType) → AreKnown types → HasCodes types code ts → list_all (index_is_kept types) indexes ≡ true
-        → list_all (is_index types) (raw_indexes types indexes code line ts) ≡ true
+    → list_all (is_index types) (raw_indexes types indexes code line ts) ≡ true
 groups_are types indexes code line [] known codes kept = refl
 groups_are types indexes code line (t ∷ more) known codes kept =
     let at = indexes_line types line t in

@@ -1,5 +1,5 @@
 -- Lists of places at which nothing is broken.
-use Rattle.std.proofs.Common.{◌≡◌, ℕ, zero, suc, ◌+◌, ◌≤◌, ◌<◌, Bool, true, false, ◌&&◌, ◌||◌, not, cond, List, [], ◌∷◌, ◌++◌, length, drop, map, refl, sym, ap, arith, ◌∙◌}
+use Rattle.std.proofs.Common.{◌≡◌, ℕ, suc, ◌≤◌, Bool, true, false, ◌&&◌, ◌||◌, not, cond, List, [], ◌∷◌, ◌++◌, length, map, refl, sym, ap, arith, ◌∙◌}
 use Rattle.std.specs.List.{list_all, list_any, flat_map}
 use Rattle.std.specs.Str.{bytes_eq}
 use Rattle.std.proofs.lemmas.Bool.{and_parts, or_parts, not-true, cond_both}
@@ -9,7 +9,7 @@ use Rattle.hal_schema.specs.declared.rules.names.Named.{Named}
 use Rattle.hal_schema.specs.Places.{when, twice, later, passing, is_before}
 use Rattle.hal_schema.specs.Lawful.{all_differ}
 use Rattle.hal_schema.specs.Raw.{put_in_order, in_order}
-use Rattle.hal_schema.specs.Rules.{same_name, names_twice}
+use Rattle.hal_schema.specs.Rules.{names_twice}
 
 pub both_none : {X : Type 0} (xs ys : List X) → xs ≡ [] → ys ≡ [] → xs ++ ys ≡ []
 both_none {X = X} xs ys e f = ap (λ (zs : List X). zs ++ ys) e ∙ f

@@ -1,9 +1,9 @@
 -- What the canonical partition file says breaks no rule.
-use Rattle.std.proofs.Common.{◌≡◌, ℕ, suc, ◌+◌, ◌≤◌, ◌<◌, ◌==◌, Bool, true, false, ◌&&◌, ◌||◌, not, nat_lt, nat_le, cond, List, [], ◌∷◌, ◌++◌, length, map, Ordering, Less, Equal, Greater, refl, sym, ap, arith, ◌∙◌}
+use Rattle.std.proofs.Common.{◌≡◌, ℕ, ◌≤◌, ◌==◌, Bool, true, false, not, List, [], ◌∷◌, length, map, Ordering, Less, Equal, Greater, refl, sym, ap, arith, ◌∙◌}
 use Rattle.std.specs.List.{list_all, list_any, flat_map}
 use Rattle.std.specs.Ordering.{is_lt}
 use Rattle.std.specs.Str.{bytes_eq}
-use Rattle.std.proofs.lemmas.Bool.{and_parts, and_from, or_from, not_from_false, true≢false, false≢true, leb-true, ne_eqb, false_from_ne_true}
+use Rattle.std.proofs.lemmas.Bool.{and_parts, and_from, or_from, not_from_false, true≢false, false≢true, ne_eqb, false_from_ne_true}
 use Rattle.std.proofs.lemmas.Cmp.{nat_list_cmp_total}
 use Rattle.std.proofs.lemmas.List.{length-map}
 use Rattle.std.proofs.lemmas.Slice.Eq.{bytes_eq-Decides}
@@ -16,7 +16,7 @@ use Rattle.hal_schema.specs.declared.schema.PartDef.{PartDef}
 use Rattle.hal_schema.specs.declared.schema.SegType.{SegType}
 use Rattle.hal_schema.specs.SegType.{key_bytes}
 use Rattle.hal_schema.specs.Keys.{key_cmp}
-use Rattle.hal_schema.specs.Lawful.{all_differ, all_rise, is_below_first, factors_fit, number_fits, part_is_kept, blocks_are_kept}
+use Rattle.hal_schema.specs.Lawful.{all_differ, all_rise, factors_fit, number_fits, part_is_kept, blocks_are_kept}
 use Rattle.hal_schema.specs.Places.{partition, when, twice, passing}
 use Rattle.hal_schema.specs.Raw.{part_of, high_below}
 use Rattle.hal_schema.specs.Rules.{names_twice, part_name, same_number, same_high, high_is_long, highs_broken, factors_broken, numbers_broken, part_counts_passed}

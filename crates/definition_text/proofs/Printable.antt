@@ -1,5 +1,5 @@
 -- What a schema keeps makes its partitions printable.
-use Rattle.std.proofs.Common.{◌≡◌, ℕ, zero, suc, ◌+◌, ◌<◌, ◌^◌, Bool, true, false, ◌&&◌, ◌||◌, ◌==◌, not, nat_lt, nat_le, List, [], ◌∷◌, length, Option, Some, None, IsTrue, slice_index, refl, arith, ◌⊎◌, inl, inr}
+use Rattle.std.proofs.Common.{◌≡◌, ℕ, zero, suc, ◌+◌, ◌<◌, ◌^◌, Bool, true, false, ◌&&◌, ◌||◌, ◌==◌, not, nat_lt, nat_le, List, [], ◌∷◌, length, Option, Some, None, IsTrue, arith, ◌⊎◌, inl, inr}
 use Rattle.std.proofs.lemmas.Bool.{and_parts, or_cases, not-true, ltb-true, leb-true, eqb-true}
 use Rattle.std.proofs.lemmas.Bool.Decides.{nat_tests}
 use Rattle.std.specs.List.{list_all, list_any, AllByRecursion}
@@ -11,7 +11,7 @@ use Rattle.hal_schema.specs.declared.schema.SegType.{SegType}
 use Rattle.hal_schema.specs.declared.schema.PartDef.{PartDef}
 use Rattle.hal_schema.specs.declared.schema.Schema.{Schema}
 use Rattle.hal_schema.specs.SegType.{key_bytes}
-use Rattle.hal_schema.specs.Lawful.{is_key_portion, is_within, field_fits, fields_fit, keys_are_fields, root_key_is_unique, highs_rise, factors_fit, number_fits, part_is_kept, part_is_stored, blocks_are_kept}
+use Rattle.hal_schema.specs.Lawful.{is_key_portion, is_within, field_fits, fields_fit, keys_are_fields, root_key_is_unique, factors_fit, number_fits, part_is_kept, part_is_stored, blocks_are_kept}
 use Rattle.hex.specs.Hex.{IsBytes}
 
 -- A partition as its type holds it, with a name that is no `/CK` name, and a high key of one byte or more.

@@ -1,48 +1,37 @@
 -- What the canonical text says of types and indexes breaks no rule.
-use Rattle.std.proofs.Common.{◌≡◌, ℕ, zero, suc, ◌+◌, ◌≤◌, ◌<◌, ◌==◌, Bool, true, false, ◌&&◌, ◌||◌, not, nat_lt, nat_le, cond, List, [], ◌∷◌, ◌++◌, length, map, filter, Option, None, Some, slice_get, refl, sym, ap, arith, ◌∙◌}
+use Rattle.std.proofs.Common.{◌≡◌, ℕ, ◌+◌, ◌≤◌, ◌==◌, Bool, true, false, ◌&&◌, not, nat_lt, nat_le, cond, List, [], ◌∷◌, ◌++◌, length, map, Option, None, Some, slice_get, refl, sym, ap, arith, ◌∙◌}
 use Rattle.std.specs.Prelude.{option_and_then, is_some, is_none}
 use Rattle.std.specs.List.{list_all, list_any, flat_map, enumerate_from}
 use Rattle.std.specs.Option.{option_map, option_map_or}
-use Rattle.std.specs.Str.{bytes_eq}
-use Rattle.std.proofs.lemmas.Bool.{and_parts, and_from, or_parts, or_from, false≢true, true≢false, not-true, not_from_false, eqb-true, leb-true, le-leb, le-ltb, ltb-true, eq-eqb, ne_eqb, both_ways}
-use Rattle.std.proofs.lemmas.List.{map-append, length-map}
-use Rattle.std.proofs.lemmas.List.Folds.{list_any-append}
-use Rattle.std.proofs.lemmas.List.Elements.{filter-append}
-use Rattle.std.proofs.lemmas.Option.{none-some, same_Some, slice_get_within}
-use Rattle.std.proofs.lemmas.Slice.Eq.{bytes_eq-Decides}
+use Rattle.std.proofs.lemmas.Bool.{and_parts, false≢true, ltb-true, ne_eqb}
 use Rattle.hal_schema.specs.declared.fault.Place.{Place}
-use Rattle.hal_schema.specs.declared.rules.names.Named.{Named}
 use Rattle.hal_schema.specs.declared.raw.RawField.{RawField}
-use Rattle.hal_schema.specs.declared.raw.RawIndex.{RawIndex}
 use Rattle.hal_schema.specs.declared.raw.RawType.{RawType}
-use Rattle.hal_schema.specs.declared.schema.Field.{Field}
 use Rattle.hal_schema.specs.declared.schema.IndexDef.{IndexDef}
 use Rattle.hal_schema.specs.declared.schema.KeyField.{KeyField}
 use Rattle.hal_schema.specs.declared.schema.SegType.{SegType}
-use Rattle.hal_schema.specs.SegType.{type_of, level_of}
-use Rattle.hal_schema.specs.Lawful.{all_differ, all_rise, parent_is_before, field_fits, index_is_kept, root_key_is_unique}
-use Rattle.hal_schema.specs.Places.{statement, when, twice, passing}
-use Rattle.hal_schema.specs.Raw.{code_of, code_named, field_of, index_of, is_sequence_field, types_of}
-use Rattle.hal_schema.specs.Rules.{is_unknown_parent, unknown_parents, misplaced_roots, names_twice, type_name, index_name, fields_of, xdflds_of, field_names, sizes_in, sizes_broken, both_sequence, sequence_broken, root_key_broken, letters_unknown, indexes_broken}
-use Rattle.definition_printer.specs.Dbd.{name_of, fields_text, index_text, type_text}
-use Rattle.definition_text.specs.RawDbd.{lines_in, behind_segm, raw_fields, raw_keyed, raw_type, raw_types, raw_index, raw_over, raw_indexes}
+use Rattle.hal_schema.specs.Lawful.{parent_is_before, field_fits}
+use Rattle.hal_schema.specs.Places.{statement, when, twice}
+use Rattle.hal_schema.specs.Raw.{code_of, code_named, field_of, is_sequence_field}
+use Rattle.hal_schema.specs.Rules.{is_unknown_parent, unknown_parents, misplaced_roots, sizes_in, sizes_broken, both_sequence, sequence_broken, root_key_broken, letters_unknown}
+use Rattle.definition_printer.specs.Dbd.{name_of}
+use Rattle.definition_text.specs.RawDbd.{behind_segm, raw_fields, raw_keyed, raw_type, raw_types}
 use Rattle.definition_text.proofs.FieldsBack.{KeyIsField, stands_at, fields_back, fields_differ, fields_good, is_bad, keyed_single, keyed_any}
-use Rattle.definition_text.proofs.TypesBack.{NamesDiffer, before_next, has_key, line_behind, raws_code, code_back, named_back, types_back}
-use Rattle.definition_text.proofs.IndexesBack.{AreKnown, all_at, place_at, names, weaker, index_back}
-use Rattle.definition_text.proofs.IndexOrder.{over, groups, indexes_line, codes_of, groups_same}
-use Rattle.definition_text.proofs.NoPlaces.{both_none, never, never_not, none_fails, none_breaks, twice_none, twice_none_by, names_none, passing_none}
+use Rattle.definition_text.proofs.TypesBack.{NamesDiffer, before_next, has_key, line_behind, raws_code, code_back}
+use Rattle.definition_text.proofs.IndexesBack.{AreKnown}
+use Rattle.definition_text.proofs.NoPlaces.{both_none, never, never_not, none_fails, none_breaks, twice_none}
 
 -- ---- raw types, one by one
 
 pub raws_same : {X : Type 0} (F : RawType → X) (G : SegType → X) (types : List SegType) (indexes : List IndexDef) → ((line : ℕ) (t : SegType) → F (raw_type types line t) ≡ G t)
-        → (code line : ℕ) (ts : List SegType) → map F (raw_types types indexes code line ts) ≡ map G ts
+    → (code line : ℕ) (ts : List SegType) → map F (raw_types types indexes code line ts) ≡ map G ts
 raws_same F G types indexes each code line [] = refl
 raws_same {X = X} F G types indexes each code line (t ∷ more) =
     let behind = line_behind types indexes code line t in
     ap (λ (x : X). x ∷ map F (raw_types types indexes (code + 1) behind more)) (each line t) ∙ ap (λ (xs : List X). G t ∷ xs) (raws_same F G types indexes each (code + 1) behind more)
 
 pub each_raw : (f : RawType → List Place) (p : SegType → Bool) (types : List SegType) (indexes : List IndexDef) → ((line : ℕ) (t : SegType) → p t ≡ true → f (raw_type types line t) ≡ [])
-        → (code line : ℕ) (ts : List SegType) → list_all p ts ≡ true → flat_map f (raw_types types indexes code line ts) ≡ []
+    → (code line : ℕ) (ts : List SegType) → list_all p ts ≡ true → flat_map f (raw_types types indexes code line ts) ≡ []
 each_raw f p types indexes each code line [] h = refl
 each_raw f p types indexes each code line (t ∷ more) h =
     let (here, later) = and_parts (p t) (list_all p more) h in
@@ -50,7 +39,7 @@ each_raw f p types indexes each code line (t ∷ more) h =
     both_none (f (raw_type types line t)) (flat_map f (raw_types types indexes (code + 1) behind more)) (each line t here) (each_raw f p types indexes each (code + 1) behind more later)
 
 pub each_numbered : (f : ℕ × RawType → List Place) (p : ℕ × SegType → Bool) (types : List SegType) (indexes : List IndexDef) → ((code line : ℕ) (t : SegType) → code ≤ length types → p (code, t) ≡ true → f (code, raw_type types line t) ≡ [])
-        → (code line : ℕ) (ts : List SegType) → code + length ts ≤ length types + 1 → list_all p (enumerate_from code ts) ≡ true → flat_map f (enumerate_from code (raw_types types indexes code line ts)) ≡ []
+    → (code line : ℕ) (ts : List SegType) → code + length ts ≤ length types + 1 → list_all p (enumerate_from code ts) ≡ true → flat_map f (enumerate_from code (raw_types types indexes code line ts)) ≡ []
 each_numbered f p types indexes each code line [] within h = refl
 each_numbered f p types indexes each code line (t ∷ more) within h =
     let (here, later) = and_parts (p (code, t)) (list_all p (enumerate_from (code + 1) more)) h in
@@ -61,7 +50,7 @@ each_numbered f p types indexes each code line (t ∷ more) within h =
 -- ---- 1 and 2: parents
 
 known_parent : (raws : List RawType) (types : List SegType) (code : ℕ) (parent : Option ℕ) → ((name : List ℕ) → code_of raws name ≡ code_named types name) → NamesDiffer types → code ≤ length types → parent_is_before code parent ≡ true
-        → is_unknown_parent raws code (option_map (name_of types) parent) ≡ false
+    → is_unknown_parent raws code (option_map (name_of types) parent) ≡ false
 known_parent raws types code None called d within h = refl
 known_parent raws types code (Some p) called d within h =
     let (some, lower) = and_parts (nat_lt 0 p) (nat_lt p code) h in
@@ -78,7 +67,7 @@ parents_known types indexes line known =
     1 line types (omega arith) known.before
 
 placed_root : (types : List SegType) (code : ℕ) (parent : Option ℕ) → parent_is_before code parent ≡ true
-        → cond (code == 1) (is_some (option_map (name_of types) parent)) (is_none (option_map (name_of types) parent)) ≡ false
+    → cond (code == 1) (is_some (option_map (name_of types) parent)) (is_none (option_map (name_of types) parent)) ≡ false
 placed_root types code None h = ap (λ (b : Bool). cond b false true) h
 placed_root types code (Some p) h =
     let (some, lower) = and_parts (nat_lt 0 p) (nat_lt p code) h in
@@ -117,7 +106,7 @@ unfolding fits
 sizes_kept types indexes line h = each_raw sizes_in fits types indexes (size_kept types) 1 line types h
 
 sequence_kept : (types : List SegType) (line : ℕ) (t : SegType) → has_key t ≡ true
-        → twice both_sequence (λ (f : RawField). statement f.line) (raw_fields t.key (behind_segm types line t) t.fields) ++ flat_map (λ (f : RawField). when (is_bad f) (statement f.line)) (raw_fields t.key (behind_segm types line t) t.fields) ≡ []
+    → twice both_sequence (λ (f : RawField). statement f.line) (raw_fields t.key (behind_segm types line t) t.fields) ++ flat_map (λ (f : RawField). when (is_bad f) (statement f.line)) (raw_fields t.key (behind_segm types line t) t.fields) ≡ []
 sequence_kept types line t h =
     let raws = raw_fields t.key (behind_segm types line t) t.fields in
     both_none (twice both_sequence (λ (f : RawField). statement f.line) raws) (flat_map (λ (f : RawField). when (is_bad f) (statement f.line)) raws)
@@ -141,7 +130,7 @@ root_keyed types line t (Some k) e h u =
     (none_breaks (λ (f : RawField). nat_lt 1 f.seq) (λ (f : RawField). statement f.line) raws (ap (list_all (λ (f : RawField). not (nat_lt 1 f.seq))) same ∙ keyed_single k behind t.fields u))
 
 pub root_kept : (types : List SegType) (indexes : List IndexDef) (line : ℕ) (ts : List SegType) → list_all has_key ts ≡ true → option_map_or (λ (k : KeyField). k.unique) (option_and_then (λ (t : SegType). t.key) (slice_get ts 0)) false ≡ true
-        → root_key_broken (slice_get (raw_types types indexes 1 line ts) 0) ≡ []
+    → root_key_broken (slice_get (raw_types types indexes 1 line ts) 0) ≡ []
 root_kept types indexes line [] keys u = refl
 root_kept types indexes line (t ∷ more) keys u = root_keyed types line t t.key refl (and_parts (has_key t) (list_all has_key more) keys).0 u
 

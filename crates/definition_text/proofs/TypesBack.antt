@@ -1,5 +1,5 @@
 -- The types that the canonical text says are those of the schema.
-use Rattle.std.proofs.Common.{◌≡◌, ℕ, zero, suc, ◌+◌, ◌≤◌, ◌<◌, ◌==◌, Bool, true, false, ◌&&◌, ◌||◌, not, nat_lt, nat_le, cond, List, [], ◌∷◌, length, map, Option, None, Some, slice_get, get_or, ◌⊎◌, ⊎_elim, refl, sym, ap, arith, ◌∙◌}
+use Rattle.std.proofs.Common.{◌≡◌, ℕ, zero, suc, ◌+◌, ◌≤◌, ◌<◌, Bool, true, false, not, nat_lt, cond, List, [], ◌∷◌, length, map, Option, None, Some, slice_get, get_or, ⊎_elim, refl, sym, ap, arith, ◌∙◌}
 use Rattle.std.specs.Prelude.{option_and_then}
 use Rattle.std.specs.List.{list_all, list_any, prefix_len, enumerate_from}
 use Rattle.std.specs.Option.{option_map, option_map_or}
@@ -12,7 +12,6 @@ use Rattle.hal_schema.specs.declared.schema.Field.{Field}
 use Rattle.hal_schema.specs.declared.schema.IndexDef.{IndexDef}
 use Rattle.hal_schema.specs.declared.schema.KeyField.{KeyField}
 use Rattle.hal_schema.specs.declared.schema.SegType.{SegType}
-use Rattle.hal_schema.specs.SegType.{type_of}
 use Rattle.hal_schema.specs.Lawful.{all_differ, parent_is_before}
 use Rattle.hal_schema.specs.Raw.{code_of, code_named, field_of, key_field, seg_type, types_of}
 use Rattle.definition_printer.specs.Dbd.{name_of, type_text}

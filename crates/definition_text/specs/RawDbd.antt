@@ -5,6 +5,7 @@ use Rattle.hal_schema.specs.declared.raw.RawField.{RawField}
 use Rattle.hal_schema.specs.declared.raw.RawType.{RawType}
 use Rattle.hal_schema.specs.declared.raw.RawIndex.{RawIndex}
 use Rattle.hal_schema.specs.declared.raw.RawDbd.{RawDbd}
+use Rattle.hal_schema.specs.declared.raw.RawSchema.{RawSchema}
 use Rattle.hal_schema.specs.declared.schema.Field.{Field}
 use Rattle.hal_schema.specs.declared.schema.KeyField.{KeyField}
 use Rattle.hal_schema.specs.declared.schema.SegType.{SegType}
@@ -12,6 +13,7 @@ use Rattle.hal_schema.specs.declared.schema.IndexDef.{IndexDef}
 use Rattle.hal_schema.specs.declared.schema.Schema.{Schema}
 use Rattle.definition_printer.specs.Wrapped.{wrapped}
 use Rattle.definition_printer.specs.Dbd.{name_of, dbd_statement, segm_statement, field_statement, sequence_name, is_at_key, plain_field, fields_text, index_text, type_text}
+use Rattle.definition_text.specs.Raw.{raw_parts_of}
 
 -- how many lines a text takes, each with its end
 abbrev pub lines_in : List ℕ → ℕ
@@ -95,3 +97,7 @@ raw_dbd_of s = record {
   types = raw_types s.types s.indexes 1 (1 + lines_in (wrapped (dbd_statement s))) s.types;
   indexes = raw_indexes s.types s.indexes 1 (1 + lines_in (wrapped (dbd_statement s))) s.types;
 }
+
+-- what both canonical texts say
+abbrev pub raw_schema_of : Schema → RawSchema
+raw_schema_of s = record { dbd = raw_dbd_of s; parts = raw_parts_of s }

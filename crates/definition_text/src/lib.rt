@@ -4,9 +4,8 @@
 mod print;
 
 pub use dbd_reader::{TextFault, read_dbd};
-pub use definition_printer::print_dbd;
 pub use partition_reader::read_partitions;
-pub use print::print_partitions;
+pub use print::{print_dbd, print_partitions};
 
 #[cfg(test)]
 mod tests;
