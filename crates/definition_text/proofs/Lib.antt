@@ -25,6 +25,7 @@ pub mod ReadBack
 pub mod ReadText
 pub mod Rebuilds
 pub mod Rebuilt
+pub mod SameSchema
 pub mod StatementLines
 pub mod StatementStep
 pub mod TextEnd

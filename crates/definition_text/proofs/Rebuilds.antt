@@ -20,6 +20,7 @@ use Rattle.hal_schema.specs.Raw.{types_of, indexes_of, high_below}
 use Rattle.hal_schema.specs.Rules.{unknown_parents, misplaced_roots, names_twice, type_name, index_name, part_name, same_number, field_names, names_repeated, statement_counts_passed, part_counts_passed, counts_passed, sizes_broken, sequence_broken, root_key_broken, letters_unknown, indexes_broken, highs_broken, factors_broken, numbers_broken, broken, first_broken, first_fault}
 use Rattle.definition_printer.specs.Wrapped.{wrapped}
 use Rattle.definition_printer.specs.Dbd.{dbd_statement}
+use Rattle.definition_text.specs.Builds.{Builds}
 use Rattle.definition_text.specs.Raw.{raw_parts_of, raw_parts_from}
 use Rattle.definition_text.specs.RawDbd.{lines_in, raw_types, raw_indexes, raw_dbd_of, raw_schema_of}
 use Rattle.definition_text.proofs.TypesBack.{types_back}
@@ -30,6 +31,7 @@ use Rattle.definition_text.proofs.TypeRules.{parents_known, roots_placed, sizes_
 use Rattle.definition_text.proofs.NameRules.{type_names_apart, index_names_apart, fields_apart, counts_kept, indexes_kept}
 use Rattle.definition_text.proofs.PartRules.{part_names_apart, part_numbers_apart, part_counts_kept, highs_kept, factors_kept, numbers_kept}
 use Rattle.definition_text.proofs.Rebuilt.{parts_rebuilt}
+use Rattle.definition_text.proofs.SameSchema.{same_schema}
 
 -- ---- what a schema keeps, one by one
 
@@ -123,7 +125,7 @@ one_back false None anch rbn h =
     let p = and_parts (anch == 1) (rbn == 1) h in
     (eqb-true anch 1 p.0, eqb-true rbn 1 p.1)
 
-pub rebuilt : (s : Schema) → IsSchemaOf (raw_schema_of s) s
+rebuilt : (s : Schema) → IsSchemaOf (raw_schema_of s) s
 rebuilt s =
     let types = same_types s in
     let raws = raw_indexes s.types s.indexes 1 (first_line s) s.types in
@@ -169,7 +171,7 @@ all_counts s =
 none_broken : (rule : ℕ) (places : List Place) (rules : List (List Place)) → places ≡ [] → first_broken (rule + 1) rules ≡ None → first_broken rule (places ∷ rules) ≡ None
 none_broken rule places rules e h = ap (λ (places : List Place). option_map_or (λ (place : Place). Some (rule, place)) (least places) (first_broken (rule + 1) rules)) e ∙ h
 
-pub faultless : (s : Schema) → first_fault (raw_schema_of s) ≡ None
+faultless : (s : Schema) → first_fault (raw_schema_of s) ≡ None
 unfolding broken
 faultless s =
     let types = raw_types s.types s.indexes 1 (first_line s) s.types in
@@ -190,3 +192,6 @@ faultless s =
     (none_broken 10 (highs_broken (types_of types) parts) (drop 10 all) (ap (λ (ts : List SegType). highs_broken ts parts) back ∙ highs_kept s.types s.parts highs.0 highs.1)
     (none_broken 11 (factors_broken (raw_dbd_of s) parts) (drop 11 all) (factors_kept (raw_dbd_of s) s.parts s.kept_parts)
     (none_broken 12 (numbers_broken (raw_parts_of s)) (drop 12 all) (numbers_kept s.phdam (raw_parts_of s) s.parts refl s.kept_blocks s.kept_parts) refl)))))))))))
+
+pub builds : (s : Schema) → Builds (raw_schema_of s) s
+builds s = record { kept = faultless s; said = rebuilt s; alone = λ other h. same_schema (raw_schema_of s) other s h (rebuilt s) }

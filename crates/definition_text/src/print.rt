@@ -1,12 +1,11 @@
-ghost use Rattle.std.specs.Prelude.{◌≡◌, ◌++◌, ℕ, IfOk, List, None, length};
+ghost use Rattle.std.specs.Prelude.{◌≡◌, ◌++◌, ℕ, IfOk, List, length};
 ghost use Rattle.hal_schema.specs.declared.raw.RawDbd.{RawDbd};
-ghost use Rattle.hal_schema.specs.Built.{IsSchemaOf};
 ghost use Rattle.hal_schema.specs.Raw.{parts_of};
-ghost use Rattle.hal_schema.specs.Rules.{first_fault};
 ghost use Rattle.dbd_reader.specs.Definition.{meaning_of};
 ghost use Rattle.definition_printer.specs.Dbd.{dbd_text};
 ghost use Rattle.definition_printer.specs.Partitions.{partitions_text};
 ghost use Rattle.partition_reader.specs.Partitions.{partitions_of};
+ghost use Rattle.definition_text.specs.Builds.{Builds};
 ghost use Rattle.definition_text.specs.Raw.{raw_parts_of};
 ghost use Rattle.definition_text.specs.RawDbd.{raw_dbd_of, raw_schema_of};
 
@@ -16,12 +15,11 @@ use std::alloc::Global;
 
 /// The canonical DBD text, as `definition_printer` prints it. Whatever stands behind its END line, it reads as the raw
 /// definition of the schema, with the line numbers of its own statements. With what the canonical partition file
-/// reads as, this breaks no rule and builds the schema again.
+/// reads as, this breaks no rule, and builds the schema again and no other.
 pub fn print_dbd(alloc: Global, schema: &Schema) -> Result<Bytes, Memory>
     ensures text { IfOk result (λ text. text ≡ dbd_text schema.now) }
     ensures reads_back { IfOk result (λ text. (rest : List ℕ) → meaning_of (text ++ rest) ≡ Ok (raw_dbd_of schema.now, length text)) }
-    ensures faultless { first_fault (raw_schema_of schema.now) ≡ None }
-    ensures rebuilds { IsSchemaOf (raw_schema_of schema.now) schema.now }
+    ensures rebuilds { IfOk result (λ _. Builds (raw_schema_of schema.now) schema.now) }
 {
     let (_anch, _rbn) = (schema.anch, schema.rbn);
     let text = definition_printer::print_dbd(alloc, schema)?;

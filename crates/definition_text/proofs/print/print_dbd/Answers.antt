@@ -1,7 +1,7 @@
 use Rattle.std.proofs.Common.{arith}
 use Rattle.definition_text.proofs.Plain.{plain}
 use Rattle.definition_text.proofs.PrintedSchema.{schema_printed}
-use Rattle.definition_text.proofs.Rebuilds.{faultless, rebuilt}
+use Rattle.definition_text.proofs.Rebuilds.{builds}
 use Rattle.definition_text.proofs.TextRead.{dbd_read_back}
 use Rattle.definition_text.proofs.print.print_dbd.Goals as goal
 
@@ -9,14 +9,5 @@ pub returns-clause-reads_back : goal.returns-clause-reads_back
 returns-clause-reads_back c rest =
     rw c.in_ok-text.ensures (dbd_read_back c.args.schema.now rest (schema_printed c.args.schema.now (plain c.args.schema.now) (omega arith) (omega arith)))
 
-pub returns-clause-faultless : goal.returns-clause-faultless
-returns-clause-faultless c = faultless c.args.schema.now
-
 pub returns-clause-rebuilds : goal.returns-clause-rebuilds
-returns-clause-rebuilds c = rebuilt c.args.schema.now
-
-pub returns-in_err-text-clause-faultless : goal.returns-in_err-text-clause-faultless
-returns-in_err-text-clause-faultless c = faultless c.args.schema.now
-
-pub returns-in_err-text-clause-rebuilds : goal.returns-in_err-text-clause-rebuilds
-returns-in_err-text-clause-rebuilds c = rebuilt c.args.schema.now
+returns-clause-rebuilds c = builds c.args.schema.now
