@@ -4,6 +4,7 @@ use Rattle.std.specs.List.{list_all, list_any, enumerate_from, flat_map}
 use Rattle.std.specs.Option.{option_map_or}
 use Rattle.std.specs.Str.{bytes_eq}
 use Rattle.std.proofs.lemmas.Bool.{and_parts, and_from, or_parts, not-true, not_from_false, false≢true, eqb-true, leb-true}
+use Rattle.std.proofs.Math.Seq.{drop-append_seam}
 use Rattle.std.proofs.lemmas.List.Folds.{list_any-append}
 use Rattle.hal_schema.specs.declared.fault.Place.{Place}
 use Rattle.hal_schema.specs.declared.raw.RawPart.{RawPart}
@@ -19,8 +20,10 @@ use Rattle.hal_schema.specs.Places.{partition, twice, least}
 use Rattle.hal_schema.specs.Raw.{types_of, indexes_of, high_below}
 use Rattle.hal_schema.specs.Rules.{unknown_parents, misplaced_roots, names_twice, type_name, index_name, part_name, same_number, field_names, names_repeated, statement_counts_passed, part_counts_passed, counts_passed, sizes_broken, sequence_broken, root_key_broken, letters_unknown, indexes_broken, highs_broken, factors_broken, numbers_broken, broken, first_broken, first_fault}
 use Rattle.definition_printer.specs.Wrapped.{wrapped}
-use Rattle.definition_printer.specs.Dbd.{dbd_statement}
-use Rattle.definition_text.specs.Builds.{Builds}
+use Rattle.definition_printer.specs.Dbd.{dbd_statement, dbd_text}
+use Rattle.definition_printer.specs.Partitions.{partitions_text}
+use Rattle.partition_reader.specs.Partitions.{partitions_of}
+use Rattle.definition_text.specs.Builds.{Builds, IsDefinitionOf}
 use Rattle.definition_text.specs.Raw.{raw_parts_of, raw_parts_from}
 use Rattle.definition_text.specs.RawDbd.{lines_in, raw_types, raw_indexes, raw_dbd_of, raw_schema_of}
 use Rattle.definition_text.proofs.TypesBack.{types_back}
@@ -32,6 +35,8 @@ use Rattle.definition_text.proofs.NameRules.{type_names_apart, index_names_apart
 use Rattle.definition_text.proofs.PartRules.{part_names_apart, part_numbers_apart, part_counts_kept, highs_kept, factors_kept, numbers_kept}
 use Rattle.definition_text.proofs.Rebuilt.{parts_rebuilt}
 use Rattle.definition_text.proofs.SameSchema.{same_schema}
+use Rattle.definition_text.proofs.TextRead.{IsPrintedSchema, dbd_read_back}
+use Rattle.definition_text.proofs.ReadBack.{partitions_read_back}
 
 -- ---- what a schema keeps, one by one
 
@@ -193,5 +198,17 @@ faultless s =
     (none_broken 11 (factors_broken (raw_dbd_of s) parts) (drop 11 all) (factors_kept (raw_dbd_of s) s.parts s.kept_parts)
     (none_broken 12 (numbers_broken (raw_parts_of s)) (drop 12 all) (numbers_kept s.phdam (raw_parts_of s) s.parts refl s.kept_blocks s.kept_parts) refl)))))))))))
 
-pub builds : (s : Schema) → Builds (raw_schema_of s) s
+builds : (s : Schema) → Builds (raw_schema_of s) s
 builds s = record { kept = faultless s; said = rebuilt s; alone = λ other h. same_schema (raw_schema_of s) other s h (rebuilt s) }
+
+-- both texts, one behind the other
+pub is_definition : (s : Schema) → IsPrintedSchema s → IsDefinitionOf (dbd_text s ++ partitions_text s) s
+is_definition s h =
+    let behind : drop (length (dbd_text s)) (dbd_text s ++ partitions_text s) ≡ partitions_text s = drop-append_seam (dbd_text s) (partitions_text s) in
+    record {
+      raw = raw_schema_of s;
+      behind = length (dbd_text s);
+      dbd = dbd_read_back s (partitions_text s) h;
+      parts = ap partitions_of behind ∙ partitions_read_back s;
+      builds = builds s;
+    }

@@ -5,21 +5,21 @@ ghost use Rattle.dbd_reader.specs.Definition.{meaning_of};
 ghost use Rattle.definition_printer.specs.Dbd.{dbd_text};
 ghost use Rattle.definition_printer.specs.Partitions.{partitions_text};
 ghost use Rattle.partition_reader.specs.Partitions.{partitions_of};
-ghost use Rattle.definition_text.specs.Builds.{Builds};
+ghost use Rattle.definition_text.specs.Builds.{IsDefinitionOf};
 ghost use Rattle.definition_text.specs.Raw.{raw_parts_of};
-ghost use Rattle.definition_text.specs.RawDbd.{raw_dbd_of, raw_schema_of};
+ghost use Rattle.definition_text.specs.RawDbd.{raw_dbd_of};
 
 use hal_base::{Bytes, Memory};
 use hal_schema::Schema;
 use std::alloc::Global;
 
 /// The canonical DBD text, as `definition_printer` prints it. Whatever stands behind its END line, it reads as the raw
-/// definition of the schema, with the line numbers of its own statements. With what the canonical partition file
-/// reads as, this breaks no rule, and builds the schema again and no other.
+/// definition of the schema, with the line numbers of its own statements.
 pub fn print_dbd(alloc: Global, schema: &Schema) -> Result<Bytes, Memory>
     ensures text { IfOk result (λ text. text ≡ dbd_text schema.now) }
     ensures reads_back { IfOk result (λ text. (rest : List ℕ) → meaning_of (text ++ rest) ≡ Ok (raw_dbd_of schema.now, length text)) }
-    ensures rebuilds { IfOk result (λ _. Builds (raw_schema_of schema.now) schema.now) }
+    // With the canonical partition file behind it, it is a definition of this schema and of no other.
+    ensures rebuilds { IfOk result (λ text. IsDefinitionOf (text ++ partitions_text schema.now) schema.now) }
 {
     let (_anch, _rbn) = (schema.anch, schema.rbn);
     let text = definition_printer::print_dbd(alloc, schema)?;

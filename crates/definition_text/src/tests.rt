@@ -63,6 +63,17 @@ fn kdb_prints_as_itself(rt: HostRuntime) -> Result<(), Fail> {
 }
 
 #[test]
+fn each_text_of_kdb_prints_alone(rt: HostRuntime) -> Result<(), Fail> {
+    let text = format!(in rt.alloc(); "{KDB}{KDB_PARTS}")?;
+    let schema = built(&rt, text.as_bytes())?;
+    let dbd = print_dbd(rt.alloc(), &schema)?;
+    let parts = print_partitions(rt.alloc(), &schema)?;
+    assert_eq!(rt; dbd.as_slice(), KDB.as_bytes());
+    assert_eq!(rt; parts.as_slice(), KDB_PARTS.as_bytes());
+    Ok(())
+}
+
+#[test]
 fn an_index_stands_behind_the_fields_of_its_target(rt: HostRuntime) -> Result<(), Fail> {
     let head =
         "DBD NAME=KXDB,ACCESS=(PHIDAM)\nSEGM NAME=R,PARENT=0,BYTES=5,RULES=(,LAST),DSGROUP=A\n";
