@@ -1,5 +1,5 @@
-//! Tests that join crates which don't stand on each other: whole commands over sources and sites in memory, the
-//! journal over sites in memory, and the rules of definitions.
+//! Tests that join crates which don't stand on each other: whole commands over sources and sites in memory, and the
+//! rules of definitions.
 #![tactic(auto)]
 
 ghost use Rattle.std.specs.Prelude.{◌≡◌, ◌≤◌, ◌⊎◌, IfOk, None, map};
@@ -72,7 +72,5 @@ mod commands;
 mod definitions;
 #[cfg(test)]
 mod first_path;
-#[cfg(test)]
-mod journal;
 #[cfg(test)]
 mod schema;

@@ -1,4 +1,5 @@
 // The block journal over sites in memory.
+use crate::{BODY, image_of};
 use block_journal::{Journal, OpenWhy};
 use hal_base::{BLOCK, Blocks, Bytes, List, Live, Memory, Store};
 use hal_disk::{MemSite, SureSite};
@@ -6,8 +7,6 @@ use std::alloc::{AllocError, Global};
 use std::test::Fail;
 
 const FIRST: u64 = 8192;
-
-const BODY: usize = 8192 + 3 * 4096;
 
 fn byte(image: &[u8], at: usize) -> u8 {
     image.get(at).copied().unwrap_or(0)
@@ -29,14 +28,6 @@ fn redone_byte(image: &[u8], block: u8, offset: u16) -> u8 {
 
 fn zeros(alloc: Global) -> Result<Bytes, AllocError> {
     Ok(Bytes::from_vec(vec![in alloc; 0; BODY]?))
-}
-
-// An image of three blocks of zeros with this gate, and what stands behind the blocks.
-fn image_of(alloc: Global, gate: u8, behind: &[u8]) -> Result<Bytes, AllocError> {
-    let mut image = vec![in alloc; 0; BODY]?;
-    image[4096] = gate;
-    image.extend_from_slice(behind)?;
-    Ok(Bytes::from_vec(image))
 }
 
 // A body that begins with these two numbers, and has a block of eights for each of the others.
