@@ -1,0 +1,10 @@
+pub mod TableSteps
+pub mod OrderSteps
+pub mod StateSteps
+pub mod StaysSteps
+pub mod ScanSteps
+pub mod Covering
+pub mod ScanTable
+pub mod Numbering
+pub mod Loading
+pub mod VolumeSteps
