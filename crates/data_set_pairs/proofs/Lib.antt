@@ -1,10 +1,14 @@
 pub mod TableSteps
 pub mod OrderSteps
 pub mod StateSteps
-pub mod StaysSteps
 pub mod ScanSteps
 pub mod Covering
 pub mod ScanTable
 pub mod Numbering
 pub mod Loading
 pub mod VolumeSteps
+pub mod Heads
+pub mod Staging
+pub mod Staged
+pub mod Growing
+pub mod Keeping

@@ -12,7 +12,7 @@ use Rattle.std.proofs.lemmas.Option.{slice_get-map, slice_get-get_or, slice_get_
 use Rattle.hal_base.specs.declared.pages.SetId.{SetId}
 use Rattle.volume_image.specs.Pages.{same_set}
 use Rattle.data_set_pairs.specs.declared.place.PagePlace.{PagePlace}
-use Rattle.data_set_pairs.specs.Table.{set_rank, is_page_of, pages_of, places_of, RunFromZero, HasPlace}
+use Rattle.data_set_pairs.specs.Table.{set_rank, is_page_of, pages_of, places_of, RunFromZero, HasPlace, IsFront}
 
 pub same_by_rank : (a b : SetId) → HasPlace a → HasPlace b → set_rank a ≡ set_rank b → same_set a b ≡ true
 same_by_rank a b low high is =
@@ -141,11 +141,6 @@ run_front pages end run set n d lt =
 pub parts_by_rank : (pages : List PagePlace) (rank end : ℕ) → IsPartitionPoint (λ p. nat_le (set_rank p.set) rank ≡ true) (λ p. nat_le (set_rank p.set) rank ≡ false) pages end → IsPartitionPoint (λ p. set_rank p.set ≤ rank) (λ p. rank < set_rank p.set) pages end
 parts_by_rank pages rank end parts =
     (λ k d low high. leb-true (set_rank (get_or pages k d).set) rank (parts.0 k d low high), λ k d low high. leb-false (set_rank (get_or pages k d).set) rank (parts.1 k d low high))
-
--- the table in front of a place is in order, and has no later data set
-pub record IsFront (set : SetId) (pages : List PagePlace) (end : ℕ) : Type 0 where
-  pub within : end ≤ length pages
-  pub parts : IsPartitionPoint (λ p. set_rank p.set ≤ set_rank set) (λ p. set_rank set < set_rank p.set) pages end
 
 pub front_last : (set : SetId) (pages : List PagePlace) (end : ℕ) → IsFront set pages end → All (λ p. set_rank p.set ≤ set_rank set) (take end pages)
 front_last set pages end front k d lt =

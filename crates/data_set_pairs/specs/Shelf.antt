@@ -30,3 +30,13 @@ pub record Standing : Type 0 where
 -- the control blocks are as they were
 abbrev pub SameControl : ℕ → Option (List (List ℕ)) → Option (List (List ℕ)) → Type 0
 SameControl control old new = option_map (take control) new ≡ option_map (take control) old
+
+abbrev pub standing : ℕ → ℕ → List PartState → List PartState → List PagePlace → List ℕ → Standing
+standing indexes control states last_states last_pages last_free = record {
+  indexes = indexes;
+  control = control;
+  states = states;
+  last_states = last_states;
+  last_pages = last_pages;
+  last_free = last_free;
+}

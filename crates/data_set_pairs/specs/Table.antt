@@ -1,6 +1,6 @@
 -- A table of pages: which block each page of each data set stands in, and which blocks are free.
 use Rattle.std.specs.Prelude.{◌≡◌, ℕ, ◌+◌, ◌*◌, ◌<◌, ◌≤◌, ◌^◌, IsTrue, Bool, List, length, map, filter, All, slice_index_or}
-use Rattle.std.specs.List.Sorted.{IsNonDecreasingBy}
+use Rattle.std.specs.List.Sorted.{IsNonDecreasingBy, IsPartitionPoint}
 use Rattle.hal_base.specs.Pages.{rises_from}
 use Rattle.hal_base.specs.declared.pages.SetId.{SetId}
 use Rattle.volume_image.specs.Pages.{same_set}
@@ -47,3 +47,8 @@ pub record IsTable (control number : ℕ) (pages : List PagePlace) (free : List 
   pub rise : IsTrue (rises_from control free)
   pub free_within : All (IsBetween control number) free
   pub every : length pages + length free + control ≡ number
+
+-- where the next page of a data set goes: no later data set stands in front, and only later ones behind
+pub record IsFront (set : SetId) (pages : List PagePlace) (end : ℕ) : Type 0 where
+  pub within : end ≤ length pages
+  pub parts : IsPartitionPoint (λ p. set_rank p.set ≤ set_rank set) (λ p. set_rank set < set_rank p.set) pages end

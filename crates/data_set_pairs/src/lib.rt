@@ -8,6 +8,7 @@ mod look;
 mod order;
 mod place;
 mod scan;
+mod shelf;
 mod states;
 mod table;
 mod volume;

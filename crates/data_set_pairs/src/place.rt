@@ -29,7 +29,7 @@ pub(crate) fn set_rank(set: SetId) -> u64
 }
 
 /// The place behind the last page of a data set, or where its first would stand.
-fn end_of(pages: &[PagePlace], set: SetId) -> usize
+pub(crate) fn end_of(pages: &[PagePlace], set: SetId) -> usize
     requires { IsNonDecreasingBy (λ p. set_rank p.set) pages.now }
     ensures within { result ≤ length pages.now }
     ensures parts { IsPartitionPoint (λ p. set_rank p.set ≤ set_rank set) (λ p. set_rank set < set_rank p.set) pages.now result }

@@ -22,13 +22,13 @@ use std::alloc::Global;
 /// table of pages in memory, as they are and, where they changed since the last commit, as they were then.
 #[derive(Drop)]
 pub struct Volume<B: Blocks> {
-    blocks: B,
-    control: u32,
-    indexes: u16,
-    states: Vec<PartState>,
-    table: Table,
-    kept_states: Option<Vec<PartState>>,
-    kept_table: Option<Table>,
+    pub(crate) blocks: B,
+    pub(crate) control: u32,
+    pub(crate) indexes: u16,
+    pub(crate) states: Vec<PartState>,
+    pub(crate) table: Table,
+    pub(crate) kept_states: Option<Vec<PartState>>,
+    pub(crate) kept_table: Option<Table>,
     ghost control_is: { control ≡ (length states.items + 31) / 32 },
     ghost near: { B.number blocks ≤ control + 65536 },
     ghost in_table: { IsTable control (B.number blocks) table.pages.items (reverse table.free.items) },

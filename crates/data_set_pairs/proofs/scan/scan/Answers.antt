@@ -1,7 +1,7 @@
 use Rattle.std.proofs.Common.{◌≡◌, ◌∙◌, ◌+◌, ◌-◌, ◌<◌, ◌≤◌, ℕ, sym, ap, refl, arith}
 use Rattle.std.specs.Prelude.{IfSome}
 use Rattle.data_set_pairs.proofs.ScanSteps.{scan_none, scan_more, scan_wrong}
-use Rattle.data_set_pairs.proofs.StaysSteps.{stays_none, stays_then}
+use Rattle.data_set_pairs.specs.StaysLaw.{stays_none, stays_then}
 use Rattle.data_set_pairs.proofs.scan.scan.Goals as goal
 
 pub loop-n-init : goal.loop-n-init

@@ -3,7 +3,7 @@ use Rattle.std.specs.Prelude.{IsTrue, IfSome}
 use Rattle.volume_image.specs.Control.{control_count}
 use Rattle.data_set_pairs.specs.Reading.{HasFirstStates, HasNoStates}
 use Rattle.data_set_pairs.proofs.StateSteps.{told_more}
-use Rattle.data_set_pairs.proofs.StaysSteps.{stays_none, stays_then}
+use Rattle.data_set_pairs.specs.StaysLaw.{stays_none, stays_then}
 use Rattle.data_set_pairs.proofs.states.read_states.Goals as goal
 
 pub loop-number-preserved : goal.loop-number-preserved
