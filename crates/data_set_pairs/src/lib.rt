@@ -3,6 +3,7 @@
 #![tactic(auto)]
 
 mod fault;
+mod kept;
 mod load;
 mod look;
 mod order;
@@ -10,6 +11,7 @@ mod place;
 mod scan;
 mod shelf;
 mod states;
+mod store;
 mod table;
 mod volume;
 
