@@ -12,3 +12,4 @@ pub mod Staging
 pub mod Staged
 pub mod Growing
 pub mod Keeping
+pub mod RowSet

@@ -4,6 +4,7 @@ ghost use Rattle.data_set_pairs.specs.Kept.{last_states, last_pages, last_free};
 
 use crate::table::Table;
 use hal_base::PartState;
+use std::mem::replace;
 
 /// Goes back to the states of the last commit.
 pub(crate) fn take_back(states: &mut Vec<PartState>, kept: &mut Option<Vec<PartState>>)
@@ -23,5 +24,33 @@ pub(crate) fn take_table_back(table: &mut Table, kept: &mut Option<Table>)
 {
     if let Some(before) = kept.take() {
         *table = before;
+    }
+}
+
+/// Puts other states in the place of these, which are kept aside if they are those of the last commit.
+pub(crate) fn put_states(
+    states: &mut Vec<PartState>,
+    changed: Vec<PartState>,
+    kept: &mut Option<Vec<PartState>>,
+)
+    ensures states { states.new.items ≡ changed.items }
+    ensures kept { last_states kept.new states.new ≡ last_states kept.old states.old }
+{
+    let before = replace(states, changed);
+    if kept.is_none() {
+        *kept = Some(before);
+    }
+}
+
+/// Puts another table in the place of this one, which is kept aside if it is that of the last commit.
+pub(crate) fn put_table(table: &mut Table, changed: Table, kept: &mut Option<Table>)
+    ensures pages { table.new.pages.items ≡ changed.pages.items }
+    ensures free { table.new.free.items ≡ changed.free.items }
+    ensures last_pages { last_pages kept.new table.new ≡ last_pages kept.old table.old }
+    ensures last_free { last_free kept.new table.new ≡ last_free kept.old table.old }
+{
+    let before = replace(table, changed);
+    if kept.is_none() {
+        *kept = Some(before);
     }
 }
