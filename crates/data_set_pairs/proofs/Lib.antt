@@ -13,3 +13,4 @@ pub mod Staged
 pub mod Growing
 pub mod Keeping
 pub mod RowSet
+pub mod SameNumber
