@@ -1,5 +1,5 @@
 -- A free block that becomes the next page of a data set.
-use Rattle.std.proofs.Common.{◌≡◌, ◌≢◌, ◌∙◌, ⊎_elim, ℕ, zero, suc, ◌+◌, ◌-◌, ◌*◌, ◌/◌, ◌%◌, ◌^◌, ◌<◌, ◌≤◌, Bool, true, false, cond, List, [], ◌∷◌, ◌++◌, length, length-append, length-drop, take, drop, map, get_or, Option, None, Some, nat_le, slice_get, slice_set, refl, sym, ap, subst, append_assoc, arith}
+use Rattle.std.proofs.Common.{◌≡◌, ◌≢◌, ◌∙◌, ⊎_elim, ℕ, zero, suc, ◌+◌, ◌-◌, ◌*◌, ◌/◌, ◌%◌, ◌^◌, ◌<◌, ◌≤◌, Bool, true, false, cond, List, [], ◌∷◌, ◌++◌, length, length-append, length-drop, take, drop, map, get_or, Option, None, Some, nat_le, nat_lt, slice_get, slice_set, refl, sym, ap, subst, append_assoc, arith}
 use Rattle.std.specs.Prelude.{◌&&◌, ◌||◌, ◌==◌, not, All, IsTrue, IfSome, insert, filter, replicate}
 use Rattle.std.specs.Option.{option_map}
 use Rattle.std.specs.Int.{w16, to_be_bytes, from_be_bytes}
@@ -15,7 +15,7 @@ use Rattle.std.proofs.Math.Seq.{get_or-append_seam}
 use Rattle.hal_base.specs.Pages.{empty_page, page_head, rises_from}
 use Rattle.hal_base.specs.declared.pages.SetId.{SetId}
 use Rattle.hal_base.specs.declared.place.PartState.{PartState}
-use Rattle.volume_image.specs.Header.{kind_in, set_in, page_in, is_free, is_left, is_live_set, is_index_set, has_cells}
+use Rattle.volume_image.specs.Header.{kind_in, set_in, page_in, is_free, is_left, is_live_set, has_cells}
 use Rattle.volume_image.specs.Pages.{same_set}
 use Rattle.data_set_pairs.specs.declared.place.PagePlace.{PagePlace}
 use Rattle.data_set_pairs.specs.Table.{HasPlace, IsBetween, IsFront, IsTable, RunFromZero, is_page_of, pages_of, places_of, set_rank}
@@ -128,9 +128,9 @@ long_if false head rest eight many = omega (arith, length-append (head ++ replic
 pub long_page : (kind : ℕ) (set : SetId) (n : ℕ) → length (empty_page kind set n) ≡ 4096
 long_page kind set n = long_if (kind == 1) (page_head kind set n) (replicate 4076 0) refl refl
 
-kind_if : (b : Bool) (kind : ℕ) → cond b (kind == 2) (kind == 1) ≡ true → ((kind == 0) ≡ false) × ((kind == 1 || kind == 2) ≡ true)
-kind_if true kind is = let two = eqb-true kind 2 is in (ap (λ (k : ℕ). k == 0) two, ap (λ (k : ℕ). k == 1 || k == 2) two)
-kind_if false kind is = let one = eqb-true kind 1 is in (ap (λ (k : ℕ). k == 0) one, ap (λ (k : ℕ). k == 1 || k == 2) one)
+kind_if : (b : Bool) (kind : ℕ) → cond b (kind == 1) (kind == 2) ≡ true → ((kind == 0) ≡ false) × ((kind == 1 || kind == 2) ≡ true)
+kind_if false kind is = let two = eqb-true kind 2 is in (ap (λ (k : ℕ). k == 0) two, ap (λ (k : ℕ). k == 1 || k == 2) two)
+kind_if true kind is = let one = eqb-true kind 1 is in (ap (λ (k : ℕ). k == 0) one, ap (λ (k : ℕ). k == 1 || k == 2) one)
 
 not_true : (b : Bool) → not b ≡ true → b ≡ false
 not_true true is = absurd (true≢false (sym is))
@@ -145,9 +145,9 @@ pub record IsNew (indexes : ℕ) (states : List PartState) (set : SetId) (n : �
 
 pub is_new : (indexes : ℕ) (states : List PartState) (set : SetId) (kind n : ℕ) → HasPlace set → n < 2 ^ 16 → takes indexes states set kind ≡ true → IsNew indexes states set n (empty_page kind set n)
 is_new indexes states set kind n place low may =
-    let one = and_parts (not (is_left states set) && is_live_set indexes states kind set) (kind_fits indexes set kind) may in
+    let one = and_parts (not (is_left states set) && is_live_set indexes states kind set) (kind_fits set kind) may in
     let two = and_parts (not (is_left states set)) (is_live_set indexes states kind set) one.0 in
-    let kinds = kind_if (is_index_set indexes set || not (has_cells set.letter)) kind one.1 in
+    let kinds = kind_if (has_cells set.letter && nat_lt set.part 32768) kind one.1 in
     let left = not_true (is_left states set) two.0 in
     let sets : set_in (empty_page kind set n) ≡ set = set_back kind set n (replicate 8 0) (cond (kind == 1) (0 ∷ 0 ∷ 15 ∷ 240 ∷ []) (0 ∷ 0 ∷ 0 ∷ 0 ∷ [])) (replicate 4076 0) place in
     let free : (kind == 0 || is_left states set) ≡ false = ap (λ (b : Bool). b || is_left states set) kinds.0 ∙ left in

@@ -5,7 +5,7 @@ ghost use Rattle.std.proofs.Common.{◌∙◌, ap, refl};
 ghost use Rattle.data_set_pairs.specs.Stays.{Stays};
 ghost use Rattle.data_set_pairs.specs.Table.{places_of};
 ghost use Rattle.data_set_pairs.specs.Kept.{last_states, last_pages, last_free};
-ghost use Rattle.data_set_pairs.specs.Shelf.{blocks_at, takes, standing, Standing, SameControl};
+ghost use Rattle.data_set_pairs.specs.Shelf.{blocks_at, kind_fits, takes, standing, Standing, SameControl};
 ghost use Rattle.data_set_pairs.specs.ShelfLaw.{control_then, few_pages, free_rise, pages_fit};
 ghost use Rattle.data_set_pairs.specs.StaysLaw.{stays_none, stays_then};
 
@@ -13,6 +13,7 @@ use crate::Volume;
 use crate::place::{PagePlace, block_at, count_of};
 use crate::table::make_room;
 use hal_base::{BLOCK, Blocks, Failed, Live, PageFault, SetId, Shelf, StageFault, empty_page};
+use volume_image::{has_cells, is_left, is_live_set};
 
 fn page_fault(fault: StageFault) -> PageFault
     ensures failed { (result ≡ PageFault.Failed) ↔ (fault ≡ StageFault.Failed) }
@@ -21,6 +22,27 @@ fn page_fault(fault: StageFault) -> PageFault
     match fault {
         StageFault::Failed => PageFault::Failed,
         StageFault::Memory => PageFault::Memory,
+    }
+}
+
+impl<B: Blocks> Volume<B> {
+    /// Whether `grow` may add a page of this kind, 1 with cells or 2 with rows, to a data set.
+    pub fn takes(&self, set: SetId, kind: u8) -> bool
+        ensures { result ≡ takes self.now.indexes self.now.states.items set kind }
+    {
+        !is_left(&self.states, set)
+            && is_live_set(self.indexes, &self.states, kind, set)
+            && kind_fits(set, kind)
+    }
+}
+
+fn kind_fits(set: SetId, kind: u8) -> bool
+    ensures { result ≡ kind_fits set kind }
+{
+    if has_cells(set.letter) && set.part < 32768 {
+        kind == 1
+    } else {
+        kind == 2
     }
 }
 
