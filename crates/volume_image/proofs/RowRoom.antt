@@ -80,3 +80,7 @@ pub none_lawful : (schema : Schema) (place : ℕ) (row : List ℕ) (state : Part
 none_lawful schema place row state good kept told lawful wrong s fit is =
     let same = some_state state s (told s (room_if_fits schema place s kept fit) is) in
     true≢false (sym (lawful (subst (λ (x : PartState). row ≡ control_row x) (sym same) is) (subst (λ (x : PartState). state_fits schema place x ≡ true) (sym same) fit)) ∙ wrong)
+
+-- a row has one lawful state
+pub one_lawful : (schema : Schema) (place : ℕ) (row : List ℕ) (state : PartState) → list_all (part_is_kept schema.phdam) schema.parts ≡ true → ((s : PartState) → HasRowRoom s → row ≡ control_row s → Some state ≡ Some s) → (s : PartState) → state_fits schema place s ≡ true → row ≡ control_row s → s ≡ state
+one_lawful schema place row state kept told s fit is = sym (some_state state s (told s (room_if_fits schema place s kept fit) is))

@@ -70,6 +70,7 @@ pub fn read_row(
     ensures row { IfOk result (λ found. IfSome found (λ state. row.now ≡ control_row state)) }
     ensures fits { IfOk result (λ found. IfSome found (λ state. IsTrue (state_fits schema.now place state))) }
     ensures none { IfOk result (λ found. IfNone found ((state : PartState) → IsTrue (state_fits schema.now place state) → row.now ≡ control_row state → ⊥)) }
+    ensures one { IfOk result (λ found. IfSome found (λ state. (other : PartState) → IsTrue (state_fits schema.now place other) → row.now ≡ control_row other → other ≡ state)) }
 {
     let Some(state) = state_of(alloc, row)? else {
         return Ok(None);

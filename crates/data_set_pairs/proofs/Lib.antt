@@ -1,0 +1,16 @@
+pub mod TableSteps
+pub mod OrderSteps
+pub mod StateSteps
+pub mod ScanSteps
+pub mod Covering
+pub mod ScanTable
+pub mod Numbering
+pub mod Loading
+pub mod VolumeSteps
+pub mod Heads
+pub mod Staging
+pub mod Staged
+pub mod Growing
+pub mod Keeping
+pub mod RowSet
+pub mod SameNumber

@@ -1,0 +1,66 @@
+-- What a table of pages says of the data blocks that it was made from.
+use Rattle.std.specs.Prelude.{◌≡◌, ◌⊎◌, ℕ, ◌+◌, ◌*◌, ◌^◌, ◌<◌, ◌≤◌, ◌==◌, Bool, true, false, ◌&&◌, ◌||◌, not, if◌then◌else◌, IsTrue, List, [], ◌∷◌, length, drop, reverse, replicate, map, filter, All, Option, Some}
+use Rattle.std.specs.List.{list_all, list_any, slice_get}
+use Rattle.hal_base.specs.declared.pages.SetId.{SetId}
+use Rattle.hal_base.specs.declared.place.PartState.{PartState}
+use Rattle.volume_image.specs.Control.{control_row, row_in}
+use Rattle.volume_image.specs.Header.{kind_in, set_in, page_in, is_free, is_live, is_live_set}
+use Rattle.volume_image.specs.Pages.{set_blocks}
+use Rattle.data_set_pairs.specs.declared.place.PagePlace.{PagePlace}
+use Rattle.data_set_pairs.specs.Table.{HasPlace}
+
+-- a block that isn't free and has cells or rows of a data set that stands, whatever else its head says
+abbrev pub is_taken : ℕ → List PartState → List ℕ → Bool
+is_taken indexes states block = not (is_free states block) && (kind_in block == 1 || kind_in block == 2) && is_live_set indexes states (kind_in block) (set_in block)
+
+abbrev pub page_at : ℕ → List ℕ → PagePlace
+page_at n block = record { set = set_in block; page = page_in block; block = n }
+
+-- the pages of data blocks of which the first has the number n
+abbrev pub taken_pages : ℕ → List PartState → ℕ → List (List ℕ) → List PagePlace
+taken_pages indexes states n [] = []
+taken_pages indexes states n (block ∷ blocks) = if is_taken indexes states block then page_at n block ∷ taken_pages indexes states (n + 1) blocks else taken_pages indexes states (n + 1) blocks
+
+-- the numbers of the free ones
+abbrev pub free_blocks : List PartState → ℕ → List (List ℕ) → List ℕ
+free_blocks states n [] = []
+free_blocks states n (block ∷ blocks) = if is_free states block then n ∷ free_blocks states (n + 1) blocks else free_blocks states (n + 1) blocks
+
+-- each of the data blocks is free or live
+abbrev pub are_known : ℕ → List PartState → List (List ℕ) → Bool
+are_known indexes states blocks = list_all (λ block. is_free states block || is_live indexes states block) blocks
+
+abbrev pub HasUnknown : ℕ → List PartState → List (List ℕ) → Type 0
+HasUnknown indexes states blocks = are_known indexes states blocks ≡ false
+
+-- the live blocks of each data set have the page numbers from 0 to their count less 1, each once
+abbrev pub AreNumbered : ℕ → List PartState → List (List ℕ) → Type 0
+AreNumbered indexes states blocks = (set : SetId) (n : ℕ) → n < length (set_blocks indexes states set blocks) → IsTrue (list_any (λ page. page == n) (map page_in (set_blocks indexes states set blocks)))
+
+-- the data blocks break rule 1 in its part on their heads, or with these in order rule 2
+abbrev pub BreaksRule : ℕ → List PartState → List (List ℕ) → ℕ → Type 0
+BreaksRule indexes states blocks rule = ((rule ≡ 1) × HasUnknown indexes states blocks) ⊎ ((rule ≡ 2) × IsTrue (are_known indexes states blocks) × (AreNumbered indexes states blocks → ⊥))
+
+-- a table that was filled from the last data block down to block n
+pub record IsScanned (indexes : ℕ) (states : List PartState) (n : ℕ) (blocks : List (List ℕ)) (pages : List PagePlace) (free : List ℕ) : Type 0 where
+  pub taken : reverse pages ≡ taken_pages indexes states n blocks
+  pub left : reverse free ≡ free_blocks states n blocks
+  pub known : IsTrue (are_known indexes states blocks)
+  pub small : All (λ p. HasPlace p.set) pages
+  pub numbers : All (λ p. p.page < 2 ^ 16) pages
+
+-- the same, of blocks that were seen, which are those of the list where it is told
+pub record HasScanned (indexes : ℕ) (states : List PartState) (n number : ℕ) (list : Option (List (List ℕ))) (pages : List PagePlace) (free : List ℕ) : Type 0 where
+  pub seen : List (List ℕ)
+  pub many : length seen + n ≡ number
+  pub told : (blocks : List (List ℕ)) → list ≡ Some blocks → drop n blocks ≡ seen
+  pub scanned : IsScanned indexes states n seen pages free
+
+-- the same pages, in whatever order: as many pass each test
+abbrev pub SamePages : List PagePlace → List PagePlace → Type 0
+SamePages xs ys = (test : PagePlace → Bool) → length (filter test ys) ≡ length (filter test xs)
+
+-- the table's pages and free blocks are just those of the data blocks
+pub record TableStands (indexes : ℕ) (states : List PartState) (control : ℕ) (pages : List PagePlace) (free : List ℕ) (blocks : List (List ℕ)) : Type 0 where
+  pub taken : SamePages (taken_pages indexes states control (drop control blocks)) pages
+  pub left : free ≡ free_blocks states control (drop control blocks)

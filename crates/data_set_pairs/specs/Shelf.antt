@@ -1,0 +1,43 @@
+-- A volume as a shelf of pages.
+use Rattle.std.specs.Prelude.{◌≡◌, ℕ, Bool, ◌&&◌, ◌||◌, ◌==◌, nat_lt, not, if◌then◌else◌, List, [], map, take, slice_index_or, Option}
+use Rattle.std.specs.Option.{option_map}
+use Rattle.hal_base.specs.declared.pages.SetId.{SetId}
+use Rattle.hal_base.specs.declared.place.PartState.{PartState}
+use Rattle.volume_image.specs.Header.{has_cells, is_left, is_live_set}
+use Rattle.data_set_pairs.specs.declared.place.PagePlace.{PagePlace}
+
+-- the blocks at these places
+abbrev pub blocks_at : List ℕ → List (List ℕ) → List (List ℕ)
+blocks_at places list = map (λ n. slice_index_or list n []) places
+
+-- pages of `A` to `J` and `M` to `V` of a partition have cells (kind 1), those of the other letters and of secondary
+-- indexes, which are the partitions from 32,768 on, have rows (kind 2)
+abbrev pub kind_fits : SetId → ℕ → Bool
+kind_fits set kind = if has_cells set.letter && nat_lt set.part 32768 then kind == 1 else kind == 2
+
+-- a block of this data set and kind isn't free, is of a data set that stands, and of the kind that fits it
+abbrev pub takes : ℕ → List PartState → SetId → ℕ → Bool
+takes indexes states set kind = not (is_left states set) && is_live_set indexes states kind set && kind_fits set kind
+
+-- what a volume holds that no change of a page changes: the states, and the states and the table of the last commit
+pub record Standing : Type 0 where
+  pub indexes : ℕ
+  pub control : ℕ
+  pub states : List PartState
+  pub last_states : List PartState
+  pub last_pages : List PagePlace
+  pub last_free : List ℕ
+
+-- the control blocks are as they were
+abbrev pub SameControl : ℕ → Option (List (List ℕ)) → Option (List (List ℕ)) → Type 0
+SameControl control old new = option_map (take control) new ≡ option_map (take control) old
+
+abbrev pub standing : ℕ → ℕ → List PartState → List PartState → List PagePlace → List ℕ → Standing
+standing indexes control states last_states last_pages last_free = record {
+  indexes = indexes;
+  control = control;
+  states = states;
+  last_states = last_states;
+  last_pages = last_pages;
+  last_free = last_free;
+}
