@@ -1,0 +1,4 @@
+pub mod Spaces
+pub mod Runs
+pub mod Filling
+pub mod Clearings

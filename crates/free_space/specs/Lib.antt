@@ -1,0 +1,4 @@
+pub mod Address
+pub mod Space
+pub mod Gaps
+pub mod Clearing
