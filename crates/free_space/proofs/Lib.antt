@@ -2,3 +2,8 @@ pub mod Spaces
 pub mod Runs
 pub mod Filling
 pub mod Clearings
+pub mod Pages
+pub mod Openings
+pub mod Rewriting
+pub mod Layouts
+pub mod Relaying

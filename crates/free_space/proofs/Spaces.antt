@@ -77,3 +77,23 @@ last_is tiles i tile last read =
     let more : take (i + 1) tiles ≡ take i tiles ++ tile ∷ [] = take_more tiles i tile (omega (arith, last)) ∙ ap (λ (t : Tile). take i tiles ++ t ∷ []) (sym read) in
     let all : take (i + 1) tiles ≡ tiles = take_all (i + 1) tiles (omega (arith, last)) in
     ap last_hole (sym all ∙ more) ∙ last-push (take i tiles) tile
+
+last-behind : (xs : List Tile) (t : Tile) (ys : List Tile) → last_hole (xs ++ t ∷ ys) ≡ last_hole (t ∷ ys)
+last-behind [] t ys = refl
+last-behind (x ∷ []) t ys = refl
+last-behind (x ∷ y ∷ xs) t ys = last-behind (y ∷ xs) t ys
+
+last_cell : (at : ℕ) (c d : Cell) (ys : List Tile) → last_hole (Seg at c ∷ ys) ≡ last_hole (Seg at d ∷ ys)
+last_cell at c d [] = refl
+last_cell at c d (y ∷ ys) = refl
+
+-- the content of a cell counts for nothing
+pub same_space : (xs : List Tile) (at : ℕ) (c d : Cell) (ys : List Tile) → space_of (xs ++ Seg at c ∷ ys) ≡ space_of (xs ++ Seg at d ∷ ys)
+same_space xs at c d ys =
+    let one : List Tile = xs ++ Seg at c ∷ ys in
+    let other : List Tile = xs ++ Seg at d ∷ ys in
+    same_made (largest_hole one) (largest_hole other) (min (free_bytes one) (2 ^ 16 - 1)) (min (free_bytes other) (2 ^ 16 - 1)) (last_hole one) (last_hole other) (holds_cell one) (holds_cell other)
+    (largest-append xs (Seg at c ∷ ys) ∙ sym (largest-append xs (Seg at d ∷ ys)))
+    (ap (λ (n : ℕ). min n (2 ^ 16 - 1)) (free-append xs (Seg at c ∷ ys) ∙ sym (free-append xs (Seg at d ∷ ys))))
+    (last-behind xs (Seg at c) ys ∙ last_cell at c d ys ∙ sym (last-behind xs (Seg at d) ys))
+    (cells-append xs (Seg at c ∷ ys) ∙ sym (cells-append xs (Seg at d ∷ ys)))

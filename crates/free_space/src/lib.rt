@@ -2,6 +2,14 @@
 #![tactic(auto)]
 
 mod address;
+mod change;
+mod edit;
+mod open;
 mod page;
+mod placing;
+mod setting;
 mod space;
+mod store;
 mod tiles;
+
+pub use store::CellStore;

@@ -8,7 +8,7 @@ ghost use Rattle.free_space.specs.Space.{largest_hole, last_hole};
 ghost use Rattle.free_space.specs.Gaps.{IsFirstGap, IsLastGap, tile_offset};
 ghost use Rattle.free_space.specs.Clearing.{IsFront, IsBack};
 
-use segment_blocks::Tile;
+use segment_blocks::{Cell, Tile};
 
 /// A hole among a page's tiles: its place among them, its offset in the page, and its length.
 #[derive(Clone, Copy, Debug, PartialEq, Eq)]
@@ -55,15 +55,15 @@ pub(crate) fn last_gap(tiles: &[Tile], len: u16) -> Option<Gap>
     }
 }
 
-/// The place among the tiles of the cell that stands at this offset.
-pub(crate) fn cell_place(tiles: &[Tile], offset: u16) -> Option<usize>
-    ensures found { IfSome result (λ place. (cell : CellOf) × (slice_get tiles.now place ≡ Some (TileOf.Seg offset cell))) }
+/// The cell that stands at this offset, and its place among the tiles.
+pub(crate) fn find_cell(tiles: &[Tile], offset: u16) -> Option<(usize, &Cell)>
+    ensures found { IfSome result (λ found. slice_get tiles.now found.0 ≡ Some (TileOf.Seg offset found.1.now)) }
     ensures none { IfNone result ((place : ℕ) (cell : CellOf) → slice_get tiles.now place ≡ Some (TileOf.Seg offset cell) → ⊥) }
 {
     for (place, tile) in tiles.iter().enumerate() {
-        if let Tile::Seg { at, .. } = tile {
+        if let Tile::Seg { at, cell } = tile {
             if *at == offset {
-                return Some(place);
+                return Some((place, cell));
             }
         }
     }
