@@ -7,3 +7,5 @@ pub mod Openings
 pub mod Rewriting
 pub mod Layouts
 pub mod Relaying
+pub mod GrownLayouts
+pub mod PlaceSteps

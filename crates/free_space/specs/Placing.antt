@@ -1,10 +1,11 @@
 -- Where a new cell goes.
-use Rattle.std.specs.Prelude.{◌≡◌, ℕ, ◌+◌, ◌-◌, ◌*◌, ◌/◌, ◌%◌, ◌<◌, ◌≤◌, ◌==◌, ◌&&◌, not, Bool, true, IsTrue, if◌then◌else◌, List, [], ◌∷◌, ◌++◌, length, replicate, slice_get, Some}
+use Rattle.std.specs.Prelude.{◌≡◌, ℕ, ◌+◌, ◌-◌, ◌*◌, ◌/◌, ◌%◌, ◌<◌, ◌≤◌, ◌==◌, ◌&&◌, not, Bool, true, false, IsTrue, if◌then◌else◌, List, [], ◌∷◌, ◌++◌, length, replicate, slice_get, Some}
 use Rattle.hal_base.specs.declared.pages.SetId.{SetId}
 use Rattle.segment_blocks.specs.declared.tile.Cell.{Cell}
 use Rattle.segment_blocks.specs.declared.tile.Tile.{Tile}
 use Rattle.segment_blocks.specs.declared.tile.Tile.TheVariants.{Hole, Seg}
 use Rattle.segment_blocks.specs.Tiling.{cell_length, shape_of}
+use Rattle.free_space.specs.declared.space.Space.{Space}
 use Rattle.free_space.specs.Address.{address}
 use Rattle.free_space.specs.Space.{largest_hole, free_bytes, last_hole, AreHoles}
 use Rattle.free_space.specs.Gaps.{left_over}
@@ -79,3 +80,37 @@ pub record Appends (set : SetId) (cell : Cell) (fbff fspf count at : ℕ) (old n
   pub place : count ≡ 0 → HasPlace fspf (length_of cell) tiles
   pub few : count ≤ opened_pages fbff (length old)
   pub needed : 0 < count → NoPlace fbff fspf (length_of cell) old
+
+-- in page n the cell takes the lowest hole in which it has place
+pub record PlacesIn (set : SetId) (cell : Cell) (at n : ℕ) (old new : List (List Tile)) : Type 0 where
+  pub before : List Tile
+  pub room : ℕ
+  pub after : List Tile
+  pub takes : TakesHole set cell at n before room after old new
+  pub lower_holes : largest_hole before < length_of cell
+
+-- in page n it takes the hole behind the last cell
+pub record AppendsIn (set : SetId) (cell : Cell) (at n : ℕ) (old new : List (List Tile)) : Type 0 where
+  pub before : List Tile
+  pub room : ℕ
+  pub takes : TakesHole set cell at n before room [] old new
+
+-- of the numbers of pages, the first whose largest hole has place for so many bytes
+pub record IsFirstWith (spaces : List Space) (len n : ℕ) : Type 0 where
+  pub below : n < length spaces
+  pub before : (k : ℕ) (space : Space) → k < n → slice_get spaces k ≡ Some space → space.largest < len
+  pub here : (space : Space) → slice_get spaces n ≡ Some space → len ≤ space.largest
+
+-- the same by the numbers of the pages
+pub record IsLeft (fbff n : ℕ) (space : Space) : Type 0 where
+  pub empty : space.cells ≡ false
+  pub due : IsTrue (is_due fbff n)
+
+pub record IsLastOpen (fbff : ℕ) (spaces : List Space) (n : ℕ) : Type 0 where
+  pub below : n < length spaces
+  pub used : (space : Space) → slice_get spaces n ≡ Some space → IsLeft fbff n space → ⊥
+  pub behind : (k : ℕ) (space : Space) → n < k → slice_get spaces k ≡ Some space → IsLeft fbff k space
+
+pub record HasRoom (fspf len : ℕ) (space : Space) : Type 0 where
+  pub fits : len ≤ space.last
+  pub enough : 4080 * fspf / 100 + len ≤ space.free

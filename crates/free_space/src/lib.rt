@@ -2,10 +2,13 @@
 #![tactic(auto)]
 
 mod address;
+mod append;
 mod change;
 mod edit;
+mod growing;
 mod open;
 mod page;
+mod place;
 mod placing;
 mod setting;
 mod space;
