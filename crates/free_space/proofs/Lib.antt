@@ -9,3 +9,4 @@ pub mod Layouts
 pub mod Relaying
 pub mod GrownLayouts
 pub mod PlaceSteps
+pub mod AppendSteps

@@ -128,3 +128,7 @@ pub places_in : (set : SetId) (shapes : List Shape) (told mid new : Option (List
 places_in set shapes told mid new cell at n len place room tiles size same small put = λ layout has.
     let (next, there, t) = put layout (subst (λ (o : Option (List (List ℕ))). HasLayout shapes o layout) (sym same) has) in
     (next, there, record { before = take place tiles; room = room; after = drop (place + 1) tiles; takes = t; lower_holes = subst (λ (m : ℕ). largest_hole (take place tiles) < m) size small })
+
+pub on_three : {T E A B C X : Type 0} (r : Result T E) → OnErr r A → OnErr r B → OnErr r C → (A → B → C → X) → OnErr r X
+on_three (Ok y) a b c f = tt
+on_three (Err e) a b c f = f a b c
