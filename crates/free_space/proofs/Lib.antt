@@ -10,3 +10,5 @@ pub mod Relaying
 pub mod GrownLayouts
 pub mod PlaceSteps
 pub mod AppendSteps
+pub mod Members
+pub mod MapSteps

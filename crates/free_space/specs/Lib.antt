@@ -7,3 +7,4 @@ pub mod Changes
 pub mod Placing
 pub mod Store
 pub mod Opening
+pub mod MapView

@@ -6,6 +6,7 @@ mod append;
 mod change;
 mod edit;
 mod growing;
+mod laws;
 mod open;
 mod page;
 mod place;
@@ -15,4 +16,5 @@ mod space;
 mod store;
 mod tiles;
 
+pub use laws::{appended_addresses_rise, each_change_is_alone};
 pub use store::CellStore;
