@@ -1,0 +1,14 @@
+pub mod Spaces
+pub mod Runs
+pub mod Filling
+pub mod Clearings
+pub mod Pages
+pub mod Openings
+pub mod Rewriting
+pub mod Layouts
+pub mod Relaying
+pub mod GrownLayouts
+pub mod PlaceSteps
+pub mod AppendSteps
+pub mod Members
+pub mod MapSteps

@@ -1,0 +1,6 @@
+use Rattle.std.proofs.Common.{◌<◌, take}
+use Rattle.free_space.specs.Space.{largest_hole}
+use Rattle.free_space.proofs.tiles.first_gap.Given as goal
+
+abbrev pub invariant-loop-place : goal.invariant-loop-place
+invariant-loop-place l = largest_hole (take l.place l.tiles) < l.len

@@ -1,0 +1,41 @@
+-- What the calls on one data set make of its layout. Each names the tiles that give way; all others stay.
+use Rattle.std.specs.Prelude.{◌≡◌, ℕ, true, List, [], ◌∷◌, ◌++◌, slice_get, slice_set, Some}
+use Rattle.segment_blocks.specs.declared.tile.Cell.{Cell}
+use Rattle.segment_blocks.specs.declared.tile.Tile.{Tile}
+use Rattle.segment_blocks.specs.declared.tile.Tile.TheVariants.{Hole, Seg}
+use Rattle.free_space.specs.declared.change.Change.{Change}
+use Rattle.free_space.specs.declared.change.Change.TheVariants.{Pointers, Content, Name, Copied}
+use Rattle.free_space.specs.Address.{page_at, offset_at}
+use Rattle.free_space.specs.Space.{AreHoles}
+
+-- in page n a run of tiles gives way to another
+pub record Replaces (old new : List (List Tile)) (n : ℕ) (before run other after : List Tile) : Type 0 where
+  pub was : slice_get old n ≡ Some (before ++ (run ++ after))
+  pub is : new ≡ slice_set old n (before ++ (other ++ after))
+
+-- the cell at the address is changed
+pub record Rewrites (at : ℕ) (change : Cell → Cell) (old new : List (List Tile)) : Type 0 where
+  pub before : List Tile
+  pub cell : Cell
+  pub after : List Tile
+  pub replaced : Replaces old new (page_at at) before (Seg (offset_at at) cell ∷ []) (Seg (offset_at at) (change cell) ∷ []) after
+
+-- the cell at the address and the holes that touch it become one hole
+pub record GivesBack (at : ℕ) (old new : List (List Tile)) : Type 0 where
+  pub before : List Tile
+  pub left : List Tile
+  pub cell : Cell
+  pub right : List Tile
+  pub after : List Tile
+  pub begin : ℕ
+  pub len : ℕ
+  pub replaced : Replaces old new (page_at at) before (left ++ Seg (offset_at at) cell ∷ right) (Hole begin len ∷ []) after
+  pub left_holes : AreHoles left
+  pub right_holes : AreHoles right
+
+-- what a change makes of a cell
+abbrev pub changed : Change → Cell → Cell
+changed (Pointers twin children) cell = record cell { twin = twin; children = children }
+changed (Content content) cell = record cell { content = content }
+changed (Name name) cell = record cell { name = name }
+changed Copied cell = record cell { copied = true }

@@ -1,0 +1,10 @@
+pub mod Address
+pub mod Space
+pub mod Gaps
+pub mod Clearing
+pub mod Layout
+pub mod Changes
+pub mod Placing
+pub mod Store
+pub mod Opening
+pub mod MapView

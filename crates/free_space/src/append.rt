@@ -1,0 +1,170 @@
+// A new cell past the last cell of the data set.
+ghost use Rattle.std.specs.Prelude.{◌≡◌, ◌≢◌, ℕ, ◌+◌, ◌-◌, ◌<◌, ◌≤◌, ◌∷◌, ◌++◌, [], List as ListOf, length, take, drop, slice_get, Some, true, false, IfOk, IfSome, IfNone, OnOk, OnErr, IsErrOf, IsTrue, ◌^◌, ◌↔◌};
+ghost use Rattle.hal_base.specs.Fault.{HasCauseFor};
+ghost use Rattle.hal_base.specs.Pages.{SameSets, SameOthers};
+ghost use Rattle.segment_blocks.specs.declared.tile.Tile.{Tile as TileOf};
+ghost use Rattle.free_space.specs.declared.space.Space.{Space as SpaceOf};
+ghost use Rattle.free_space.specs.Layout.{HasLayout, Relaid};
+ghost use Rattle.free_space.specs.Placing.{length_of, grown, is_due, opened_pages, AppendsIn, Appends, NoPlace, IsLeft, IsLastOpen, HasRoom};
+ghost use Rattle.free_space.specs.Store.{StandsFor, Grows, IsTyped};
+
+use crate::CellStore;
+use crate::space::Space;
+use crate::tiles::last_gap;
+use hal_base::{BLOCK, PageFault, Shelf};
+use segment_blocks::{Cell, cell_size, one_tiling};
+
+/// A page of this number is left empty by fbff, as long as no other call puts a cell there.
+fn is_due(fbff: u8, page: usize) -> bool
+    requires { page < 2 ^ 32 }
+    ensures { result ≡ is_due fbff page }
+{
+    fbff != 0 && (page + 1) % usize::from(fbff) == 0
+}
+
+/// A page of this number with these numbers is left empty.
+fn is_left_empty(space: Space, fbff: u8, page: usize) -> bool
+    requires { page < 2 ^ 32 }
+    ensures { IsTrue result ↔ IsLeft fbff page space }
+{
+    !space.cells && is_due(fbff, page)
+}
+
+/// The last page that isn't left empty.
+fn last_open(spaces: &[Space], fbff: u8) -> Option<usize>
+    requires { length spaces.now < 2 ^ 32 }
+    ensures found { IfSome result (IsLastOpen fbff spaces.now) }
+    ensures none { IfNone result ((k : ℕ) (space : SpaceOf) → slice_get spaces.now k ≡ Some space → IsLeft fbff k space) }
+{
+    for page in (0..spaces.len()).rev() {
+        if !is_left_empty(spaces[page], fbff, page) {
+            return Some(page);
+        }
+    }
+    None
+}
+
+/// So many bytes have place past the last cell of a page, and fspf in a hundred of its bytes stay free.
+fn has_room(space: Space, fspf: u8, len: u16) -> bool
+    ensures { IsTrue result ↔ HasRoom fspf len space }
+{
+    let kept = 4080 * u32::from(fspf) / 100;
+    len <= space.last && kept + u32::from(len) <= u32::from(space.free)
+}
+
+/// The page that takes a cell of this length without a new one.
+fn page_with_room(spaces: &[Space], fbff: u8, fspf: u8, len: u16) -> Option<usize>
+    requires { length spaces.now < 2 ^ 32 }
+    ensures found { IfSome result (λ page. IsLastOpen fbff spaces.now page × ((space : SpaceOf) → slice_get spaces.now page ≡ Some space → HasRoom fspf len space)) }
+    ensures none { IfNone result ((page : ℕ) (space : SpaceOf) → IsLastOpen fbff spaces.now page → slice_get spaces.now page ≡ Some space → HasRoom fspf len space → ⊥) }
+{
+    let page = last_open(spaces, fbff)?;
+    if has_room(spaces[page], fspf, len) {
+        Some(page)
+    } else {
+        None
+    }
+}
+
+impl CellStore {
+    /// Puts a cell into the hole behind the last cell of a page.
+    fn append_in<H: Shelf>(
+        &mut self,
+        shelf: &mut H,
+        page: u16,
+        cell: &Cell,
+    ) -> Result<u32, PageFault>
+        requires live { IsTrue (H.live shelf.old) }
+        requires stands { StandsFor self.old.set self.old.shapes self.old.spaces.items (H.pages_in shelf.old) (H.places shelf.old) }
+        requires typed { IsTyped self.old.shapes cell.now }
+        requires content { length cell.now.content ≤ 2016 }
+        ensures appends_in { IfOk result (λ at. Relaid self.old.shapes (H.pages_in shelf.old self.old.set) (H.pages_in shelf.new self.old.set) (AppendsIn self.old.set cell.now at page)) }
+        ensures unchanged { OnErr result (SameSets (H.pages_in shelf.old) (H.pages_in shelf.new)) }
+        ensures others { SameOthers self.old.set (H.pages_in shelf.old) (H.pages_in shelf.new) }
+        ensures room { result ≡ Err PageFault.NoRoom → ⊥ }
+        ensures set { self.new.set ≡ self.old.set }
+        ensures shapes { self.new.shapes ≡ self.old.shapes }
+        ensures stands { StandsFor self.new.set self.new.shapes self.new.spaces.items (H.pages_in shelf.new) (H.places shelf.new) }
+        ensures places { SameSets (H.places shelf.old) (H.places shelf.new) }
+        ensures free { H.free shelf.new ≡ H.free shelf.old }
+        ensures steady { H.steady shelf.old shelf.new }
+        ensures cause { HasCauseFor (H.disk_faults shelf.old) (H.disk_faults shelf.new) result PageFault.Failed }
+        ensures live { (result ≡ Err PageFault.Failed → ⊥) → IsTrue (H.live shelf.new) }
+    {
+        let len = cell_size(self.shape_for(cell));
+        let mut block = [0; BLOCK];
+        let tiles = self.read_page(shelf, page, &mut block)?;
+        let found = tiles.as_slice();
+        let Some(gap) = last_gap(found, len) else {
+            return Err(PageFault::Memory);
+        };
+        self.fill_page(shelf, page, &mut block, found, gap, cell)
+    }
+
+    /// Opens the page for the next cell: the next that isn't due, and before it the one that is.
+    fn open_page<H: Shelf>(&mut self, shelf: &mut H, fbff: u8) -> Result<u16, PageFault>
+        requires live { IsTrue (H.live shelf.old) }
+        requires stands { StandsFor self.old.set self.old.shapes self.old.spaces.items (H.pages_in shelf.old) (H.places shelf.old) }
+        requires takes { IsTrue (H.takes shelf.old self.old.set 1) }
+        ensures number { IfOk result (λ n. n + 1 ≡ length self.old.spaces.items + opened_pages fbff (length self.old.spaces.items)) }
+        ensures grown { OnOk result (Relaid self.old.shapes (H.pages_in shelf.old self.old.set) (H.pages_in shelf.new self.old.set) (λ old new. new ≡ grown (opened_pages fbff (length self.old.spaces.items)) old)) }
+        ensures grows { OnOk result (Grows self.old.set (opened_pages fbff (length self.old.spaces.items)) (H.free shelf.old) (H.free shelf.new) (H.places shelf.old) (H.places shelf.new)) }
+        ensures no_room { IsErrOf result PageFault.NoRoom → length (H.free shelf.old) < opened_pages fbff (length self.old.spaces.items) }
+        ensures left { OnErr result ((count : ℕ) × (count ≤ 1) × Grows self.old.set count (H.free shelf.old) (H.free shelf.new) (H.places shelf.old) (H.places shelf.new)
+            × Relaid self.old.shapes (H.pages_in shelf.old self.old.set) (H.pages_in shelf.new self.old.set) (λ old new. new ≡ grown count old)) }
+        ensures others { SameOthers self.old.set (H.pages_in shelf.old) (H.pages_in shelf.new) }
+        ensures set { self.new.set ≡ self.old.set }
+        ensures shapes { self.new.shapes ≡ self.old.shapes }
+        ensures stands { StandsFor self.new.set self.new.shapes self.new.spaces.items (H.pages_in shelf.new) (H.places shelf.new) }
+        ensures steady { H.steady shelf.old shelf.new }
+        ensures cause { HasCauseFor (H.disk_faults shelf.old) (H.disk_faults shelf.new) result PageFault.Failed }
+        ensures live { (result ≡ Err PageFault.Failed → ⊥) → IsTrue (H.live shelf.new) }
+    {
+        if !is_due(fbff, self.spaces.len()) {
+            return self.add_page(shelf);
+        }
+        let _due = self.add_page(shelf)?;
+        self.add_page(shelf)
+    }
+
+    /// Stores a cell past the last cell of the data set, at an address above all others, and answers that. Of each
+    /// `fbff` pages one is left empty, and of each page `fspf` in a hundred bytes (IMS: FRSPC). `NoRoom` comes where
+    /// a new page is needed and no block is free; a page that was to be left empty may have been added before.
+    pub fn append<H: Shelf>(
+        &mut self,
+        shelf: &mut H,
+        cell: &Cell,
+        fbff: u8,
+        fspf: u8,
+    ) -> Result<u32, PageFault>
+        requires live { IsTrue (H.live shelf.old) }
+        requires stands { StandsFor self.old.set self.old.shapes self.old.spaces.items (H.pages_in shelf.old) (H.places shelf.old) }
+        requires takes { IsTrue (H.takes shelf.old self.old.set 1) }
+        requires typed { IsTyped self.old.shapes cell.now }
+        requires content { length cell.now.content ≤ 2016 }
+        requires step { fbff ≢ 1 }
+        ensures appended { IfOk result (λ at. (count : ℕ) × Grows self.old.set count (H.free shelf.old) (H.free shelf.new) (H.places shelf.old) (H.places shelf.new)
+            × Relaid self.old.shapes (H.pages_in shelf.old self.old.set) (H.pages_in shelf.new self.old.set) (Appends self.old.set cell.now fbff fspf count at)) }
+        ensures no_room { IsErrOf result PageFault.NoRoom → (length (H.free shelf.old) < opened_pages fbff (length (H.places shelf.old self.old.set)))
+            × ((layout : ListOf (ListOf TileOf)) → HasLayout self.old.shapes (H.pages_in shelf.old self.old.set) layout → NoPlace fbff fspf (length_of cell.now) layout) }
+        ensures left { OnErr result ((count : ℕ) × (count ≤ 2) × Grows self.old.set count (H.free shelf.old) (H.free shelf.new) (H.places shelf.old) (H.places shelf.new)
+            × Relaid self.old.shapes (H.pages_in shelf.old self.old.set) (H.pages_in shelf.new self.old.set) (λ old new. new ≡ grown count old)) }
+        ensures others { SameOthers self.old.set (H.pages_in shelf.old) (H.pages_in shelf.new) }
+        ensures set { self.new.set ≡ self.old.set }
+        ensures shapes { self.new.shapes ≡ self.old.shapes }
+        ensures stands { StandsFor self.new.set self.new.shapes self.new.spaces.items (H.pages_in shelf.new) (H.places shelf.new) }
+        ensures steady { H.steady shelf.old shelf.new }
+        ensures cause { HasCauseFor (H.disk_faults shelf.old) (H.disk_faults shelf.new) result PageFault.Failed }
+        ensures live { (result ≡ Err PageFault.Failed → ⊥) → IsTrue (H.live shelf.new) }
+    {
+        one_tiling();
+        let len = cell_size(self.shape_for(cell));
+        match page_with_room(&self.spaces, fbff, fspf, len) {
+            Some(page) => self.append_in(shelf, page as u16, cell),
+            None => {
+                let page = self.open_page(shelf, fbff)?;
+                self.append_in(shelf, page, cell)
+            }
+        }
+    }
+}

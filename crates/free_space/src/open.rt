@@ -1,0 +1,117 @@
+// A store is opened: each page is read once.
+ghost use Rattle.std.specs.Prelude.{◌≡◌, ℕ, ◌+◌, ◌<◌, ◌≤◌, List as ListOf, length, slice_get, Some, Err, IfOk, OnErr, IsTrue};
+ghost use Rattle.hal_base.specs.Fault.{HasCauseFor};
+ghost use Rattle.hal_base.specs.Pages.{SameSets};
+ghost use Rattle.hal_base.specs.declared.place.Shape.{Shape as ShapeOf};
+ghost use Rattle.segment_blocks.specs.declared.tile.Tile.{Tile as TileOf};
+ghost use Rattle.segment_blocks.specs.Tiling.{IsTiling, StopsAt};
+ghost use Rattle.free_space.specs.Space.{space_of};
+ghost use Rattle.free_space.specs.Store.{KnowsLayout, StandsFor};
+ghost use Rattle.free_space.specs.Opening.{IsSpaceOf, BreaksAt, FirstBreaksAt};
+
+use crate::CellStore;
+use crate::space::Space;
+use hal_base::{BLOCK, List, SetId, Shape, Shelf, StoreFault};
+use segment_blocks::{BlockFault, parse_block};
+use std::alloc::Global;
+
+/// The numbers of one page.
+fn read_space<H: Shelf>(
+    alloc: Global,
+    shelf: &mut H,
+    set: SetId,
+    shapes: &[Shape],
+    page: u16,
+) -> Result<Space, StoreFault>
+    requires live { IsTrue (H.live shelf.old) }
+    requires below { page < length (H.places shelf.old set) }
+    ensures space { IfOk result (λ space. (pages : ListOf (ListOf ℕ)) → H.pages_in shelf.old set ≡ Some pages → IsSpaceOf shapes.now pages page space) }
+    ensures number { (n offset : ℕ) → result ≡ Err (StoreFault.BadTile n offset) → n ≡ page }
+    ensures bad { (n offset : ℕ) → result ≡ Err (StoreFault.BadTile n offset) → (pages : ListOf (ListOf ℕ)) → H.pages_in shelf.old set ≡ Some pages → BreaksAt shapes.now pages n offset }
+    ensures pages { SameSets (H.pages_in shelf.old) (H.pages_in shelf.new) }
+    ensures places { SameSets (H.places shelf.old) (H.places shelf.new) }
+    ensures free { H.free shelf.new ≡ H.free shelf.old }
+    ensures steady { H.steady shelf.old shelf.new }
+    ensures cause { HasCauseFor (H.disk_faults shelf.old) (H.disk_faults shelf.new) result StoreFault.Failed }
+    ensures live { (result ≡ Err StoreFault.Failed → ⊥) → IsTrue (H.live shelf.new) }
+{
+    let mut block = [0; BLOCK];
+    if shelf.fetch_page(set, page, &mut block).is_err() {
+        return Err(StoreFault::Failed);
+    }
+    match parse_block(alloc, shapes, &block) {
+        Ok(tiles) => Ok(Space::none().with_all(tiles.as_slice())),
+        Err(BlockFault::BadTile { offset }) => Err(StoreFault::BadTile { page, offset }),
+        Err(BlockFault::Memory) => Err(StoreFault::Memory),
+    }
+}
+
+/// The numbers of each page.
+fn read_spaces<H: Shelf>(
+    alloc: Global,
+    shelf: &mut H,
+    set: SetId,
+    shapes: &[Shape],
+) -> Result<Vec<Space>, StoreFault>
+    requires live { IsTrue (H.live shelf.old) }
+    ensures many { IfOk result (λ spaces. length spaces.items ≡ length (H.places shelf.old set)) }
+    ensures layout { IfOk result (λ spaces. (pages : ListOf (ListOf ℕ)) → H.pages_in shelf.old set ≡ Some pages → KnowsLayout shapes.now pages spaces.items) }
+    ensures bad { (n offset : ℕ) → result ≡ Err (StoreFault.BadTile n offset) → (pages : ListOf (ListOf ℕ)) → H.pages_in shelf.old set ≡ Some pages → FirstBreaksAt shapes.now pages n offset }
+    ensures pages { SameSets (H.pages_in shelf.old) (H.pages_in shelf.new) }
+    ensures places { SameSets (H.places shelf.old) (H.places shelf.new) }
+    ensures free { H.free shelf.new ≡ H.free shelf.old }
+    ensures steady { H.steady shelf.old shelf.new }
+    ensures cause { HasCauseFor (H.disk_faults shelf.old) (H.disk_faults shelf.new) result StoreFault.Failed }
+    ensures live { (result ≡ Err StoreFault.Failed → ⊥) → IsTrue (H.live shelf.new) }
+{
+    let mut spaces = Vec::new(alloc);
+    for page in 0..shelf.pages(set) {
+        let space = read_space(alloc, shelf, set, shapes, page as u16)?;
+        if spaces.push(space).is_err() {
+            return Err(StoreFault::Memory);
+        }
+    }
+    Ok(spaces)
+}
+
+fn kept_shapes(alloc: Global, shapes: &[Shape]) -> Result<List<Shape>, StoreFault>
+    ensures kept { IfOk result (λ list. list ≡ shapes.now) }
+    ensures memory { OnErr result (result ≡ Err StoreFault.Memory) }
+{
+    match List::from_slice(alloc, shapes) {
+        Ok(list) => Ok(list),
+        Err(_) => Err(StoreFault::Memory),
+    }
+}
+
+impl CellStore {
+    /// The cells of the data set, whose types have these shapes, the shape of code 1 first. `BadTile` names the first
+    /// page whose body isn't tiled, and the first offset in it at which no tile begins.
+    pub fn open<H: Shelf>(
+        alloc: Global,
+        shelf: &mut H,
+        set: SetId,
+        shapes: &[Shape],
+    ) -> Result<CellStore, StoreFault>
+        requires live { IsTrue (H.live shelf.old) }
+        ensures opened { IfOk result (λ store. StandsFor store.set store.shapes store.spaces.items (H.pages_in shelf.new) (H.places shelf.new)) }
+        ensures set { IfOk result (λ store. store.set ≡ set) }
+        ensures shapes { IfOk result (λ store. store.shapes ≡ shapes.now) }
+        ensures bad { (n offset : ℕ) → result ≡ Err (StoreFault.BadTile n offset) → (pages : ListOf (ListOf ℕ)) → H.pages_in shelf.old set ≡ Some pages → FirstBreaksAt shapes.now pages n offset }
+        ensures pages { SameSets (H.pages_in shelf.old) (H.pages_in shelf.new) }
+        ensures places { SameSets (H.places shelf.old) (H.places shelf.new) }
+        ensures free { H.free shelf.new ≡ H.free shelf.old }
+        ensures steady { H.steady shelf.old shelf.new }
+        ensures cause { HasCauseFor (H.disk_faults shelf.old) (H.disk_faults shelf.new) result StoreFault.Failed }
+        ensures live { (result ≡ Err StoreFault.Failed → ⊥) → IsTrue (H.live shelf.new) }
+    {
+        let shapes = kept_shapes(alloc, shapes)?;
+        let spaces = read_spaces(alloc, shelf, set, shapes.as_slice())?;
+        Ok(CellStore {
+            alloc,
+            set,
+            shapes,
+            spaces,
+        })
+    }
+}

@@ -1,0 +1,106 @@
+// The changes of one cell. It keeps its place, and all other cells stay.
+ghost use Rattle.std.specs.Prelude.{◌≡◌, ℕ, ◌<◌, true, length, OnOk, OnErr, IsTrue, ⊤};
+ghost use Rattle.hal_base.specs.Fault.{HasCauseFor};
+ghost use Rattle.hal_base.specs.Pages.{SameSets, SameOthers};
+ghost use Rattle.free_space.specs.Layout.{HoldsAt, Relaid};
+ghost use Rattle.free_space.specs.Changes.{Rewrites};
+ghost use Rattle.free_space.specs.Store.{StandsFor};
+
+use crate::CellStore;
+use crate::change::Change;
+use hal_base::{Bytes, Ilk, List, PageFault, Shelf};
+
+impl CellStore {
+    /// Sets the next twin of the cell at an address, and the first child of each child type, 0 for none.
+    pub fn set_pointers<H: Shelf>(
+        &self,
+        shelf: &mut H,
+        at: u32,
+        twin: u32,
+        children: &List<u32>,
+    ) -> Result<(), PageFault>
+        requires live { IsTrue (H.live shelf.old) }
+        requires stands { StandsFor self.now.set self.now.shapes self.now.spaces.items (H.pages_in shelf.old) (H.places shelf.old) }
+        requires cell { HoldsAt self.now.shapes self.now.set (H.pages_in shelf.old self.now.set) at (λ cell. length children.now ≡ length cell.children) }
+        ensures changed { OnOk result (Relaid self.now.shapes (H.pages_in shelf.old self.now.set) (H.pages_in shelf.new self.now.set) (Rewrites at (λ cell. record cell { twin = twin; children = children.now }))) }
+        ensures unchanged { OnErr result (SameSets (H.pages_in shelf.old) (H.pages_in shelf.new)) }
+        ensures others { SameOthers self.now.set (H.pages_in shelf.old) (H.pages_in shelf.new) }
+        ensures room { result ≡ Err PageFault.NoRoom → ⊥ }
+        ensures stands { StandsFor self.now.set self.now.shapes self.now.spaces.items (H.pages_in shelf.new) (H.places shelf.new) }
+        ensures places { SameSets (H.places shelf.old) (H.places shelf.new) }
+        ensures free { H.free shelf.new ≡ H.free shelf.old }
+        ensures steady { H.steady shelf.old shelf.new }
+        ensures cause { HasCauseFor (H.disk_faults shelf.old) (H.disk_faults shelf.new) result PageFault.Failed }
+        ensures live { (result ≡ Err PageFault.Failed → ⊥) → IsTrue (H.live shelf.new) }
+    {
+        let Ok(children) = List::from_slice(self.alloc, children.as_slice()) else {
+            return Err(PageFault::Memory);
+        };
+        self.rewrite(shelf, at, Change::Pointers { twin, children })
+    }
+
+    /// Sets the content of the cell at an address.
+    pub fn set_data<H: Shelf>(
+        &self,
+        shelf: &mut H,
+        at: u32,
+        content: &Bytes,
+    ) -> Result<(), PageFault>
+        requires live { IsTrue (H.live shelf.old) }
+        requires stands { StandsFor self.now.set self.now.shapes self.now.spaces.items (H.pages_in shelf.old) (H.places shelf.old) }
+        requires cell { HoldsAt self.now.shapes self.now.set (H.pages_in shelf.old self.now.set) at (λ cell. length content.now ≡ length cell.content) }
+        ensures changed { OnOk result (Relaid self.now.shapes (H.pages_in shelf.old self.now.set) (H.pages_in shelf.new self.now.set) (Rewrites at (λ cell. record cell { content = content.now }))) }
+        ensures unchanged { OnErr result (SameSets (H.pages_in shelf.old) (H.pages_in shelf.new)) }
+        ensures others { SameOthers self.now.set (H.pages_in shelf.old) (H.pages_in shelf.new) }
+        ensures room { result ≡ Err PageFault.NoRoom → ⊥ }
+        ensures stands { StandsFor self.now.set self.now.shapes self.now.spaces.items (H.pages_in shelf.new) (H.places shelf.new) }
+        ensures places { SameSets (H.places shelf.old) (H.places shelf.new) }
+        ensures free { H.free shelf.new ≡ H.free shelf.old }
+        ensures steady { H.steady shelf.old shelf.new }
+        ensures cause { HasCauseFor (H.disk_faults shelf.old) (H.disk_faults shelf.new) result PageFault.Failed }
+        ensures live { (result ≡ Err PageFault.Failed → ⊥) → IsTrue (H.live shelf.new) }
+    {
+        let Ok(content) = content.copy() else {
+            return Err(PageFault::Memory);
+        };
+        self.rewrite(shelf, at, Change::Content(content))
+    }
+
+    /// Sets the name of the cell at an address.
+    pub fn set_name<H: Shelf>(&self, shelf: &mut H, at: u32, name: Ilk) -> Result<(), PageFault>
+        requires live { IsTrue (H.live shelf.old) }
+        requires stands { StandsFor self.now.set self.now.shapes self.now.spaces.items (H.pages_in shelf.old) (H.places shelf.old) }
+        requires cell { HoldsAt self.now.shapes self.now.set (H.pages_in shelf.old self.now.set) at (λ _. ⊤) }
+        ensures changed { OnOk result (Relaid self.now.shapes (H.pages_in shelf.old self.now.set) (H.pages_in shelf.new self.now.set) (Rewrites at (λ cell. record cell { name = name }))) }
+        ensures unchanged { OnErr result (SameSets (H.pages_in shelf.old) (H.pages_in shelf.new)) }
+        ensures others { SameOthers self.now.set (H.pages_in shelf.old) (H.pages_in shelf.new) }
+        ensures room { result ≡ Err PageFault.NoRoom → ⊥ }
+        ensures stands { StandsFor self.now.set self.now.shapes self.now.spaces.items (H.pages_in shelf.new) (H.places shelf.new) }
+        ensures places { SameSets (H.places shelf.old) (H.places shelf.new) }
+        ensures free { H.free shelf.new ≡ H.free shelf.old }
+        ensures steady { H.steady shelf.old shelf.new }
+        ensures cause { HasCauseFor (H.disk_faults shelf.old) (H.disk_faults shelf.new) result PageFault.Failed }
+        ensures live { (result ≡ Err PageFault.Failed → ⊥) → IsTrue (H.live shelf.new) }
+    {
+        self.rewrite(shelf, at, Change::Name(name))
+    }
+
+    /// Marks the cell at an address as copied into the other data set.
+    pub fn mark_copied<H: Shelf>(&self, shelf: &mut H, at: u32) -> Result<(), PageFault>
+        requires live { IsTrue (H.live shelf.old) }
+        requires stands { StandsFor self.now.set self.now.shapes self.now.spaces.items (H.pages_in shelf.old) (H.places shelf.old) }
+        requires cell { HoldsAt self.now.shapes self.now.set (H.pages_in shelf.old self.now.set) at (λ _. ⊤) }
+        ensures changed { OnOk result (Relaid self.now.shapes (H.pages_in shelf.old self.now.set) (H.pages_in shelf.new self.now.set) (Rewrites at (λ cell. record cell { copied = true }))) }
+        ensures unchanged { OnErr result (SameSets (H.pages_in shelf.old) (H.pages_in shelf.new)) }
+        ensures others { SameOthers self.now.set (H.pages_in shelf.old) (H.pages_in shelf.new) }
+        ensures room { result ≡ Err PageFault.NoRoom → ⊥ }
+        ensures stands { StandsFor self.now.set self.now.shapes self.now.spaces.items (H.pages_in shelf.new) (H.places shelf.new) }
+        ensures places { SameSets (H.places shelf.old) (H.places shelf.new) }
+        ensures free { H.free shelf.new ≡ H.free shelf.old }
+        ensures steady { H.steady shelf.old shelf.new }
+        ensures cause { HasCauseFor (H.disk_faults shelf.old) (H.disk_faults shelf.new) result PageFault.Failed }
+        ensures live { (result ≡ Err PageFault.Failed → ⊥) → IsTrue (H.live shelf.new) }
+    {
+        self.rewrite(shelf, at, Change::Copied)
+    }
+}
