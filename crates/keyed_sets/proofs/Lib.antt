@@ -5,3 +5,13 @@ pub mod Puts
 pub mod Edits
 pub mod Rising
 pub mod Breaks
+pub mod Keys
+pub mod Maps
+pub mod Edited
+pub mod Lookups
+pub mod Members
+pub mod Sets
+pub mod PageByPage
+pub mod Told
+pub mod Openings
+pub mod Tables
