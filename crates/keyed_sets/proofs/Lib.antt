@@ -9,6 +9,7 @@ pub mod Keys
 pub mod Maps
 pub mod Edited
 pub mod Lookups
+pub mod NextRows
 pub mod Members
 pub mod Sets
 pub mod PageByPage

@@ -58,11 +58,6 @@ missing_at rows at key rise place missing x c is =
 pub page_is : (shape : RowShape) (pages : List (List ℕ)) (n : ℕ) (page : List ℕ) → slice_get pages n ≡ Some page → page_rows (tables shape pages) n ≡ rows_in shape page
 page_is shape pages n page there = get_or-map (rows_in shape) pages n page [] (slice_get_within pages n page there) ∙ ap (rows_in shape) (get_or_from_slice_get pages n page page there)
 
--- where a set's rows are told, what is known of its first keys in memory
-pub record IsAt (shape : RowShape) (pages : List (List ℕ)) (firsts : List First) (empty : List ℕ) (key : List ℕ) (at : ℕ) : Type 0 where
-  pub stands : Stands shape firsts empty pages
-  pub split : IsSplit key firsts at
-
 above_all : (shape : RowShape) (pages : List (List ℕ)) (firsts : List First) (empty : List ℕ) (key : List ℕ) → Stands shape firsts empty pages → IsSplit key firsts 0 → (x : Row) → Contains (rows_of shape pages) x → is_below key (x.0) ≡ true
 above_all shape pages firsts empty key stands split x c = elim (side_of (tables shape pages) firsts 0 no_first no_first (lawful shape pages stands.rule) stands.index split.within (λ some. absurd (omega arith)) x (row_in shape pages x c)) [
   | Here some d ↦ absurd (omega arith)
@@ -90,7 +85,7 @@ found_in_page shape pages firsts empty key at p page stands split some is there 
       | Behind f k le lt same d ↦ absurd (below_itself key (x.0) (above_split table firsts key at apart stands.index split f k le lt same x d) (sym keyed))
     ])
 
-page_rises : (shape : RowShape) (pages : List (List ℕ)) (n : ℕ) (page : List ℕ) → KeepsRule shape pages → slice_get pages n ≡ Some page → Rise (rows_in shape page)
+pub page_rises : (shape : RowShape) (pages : List (List ℕ)) (n : ℕ) (page : List ℕ) → KeepsRule shape pages → slice_get pages n ≡ Some page → Rise (rows_in shape page)
 page_rises shape pages n page rule there = rise_one (rows_in shape page) (subst Rows (page_is shape pages n page there) ((lawful shape pages rule).rise n))
 
 any_ok : {T E : Type 0} (r : Result T E) (P : T → Type 0) → ((t : T) → P t) → IfOk r P

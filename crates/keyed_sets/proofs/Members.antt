@@ -96,3 +96,10 @@ parted {X} key k xs rise i j d le within so = elim (cases_eq i j) [
       let under : is_below k (key (get_or xs j d)) ≡ false = not-true (is_below k (key (get_or xs j d))) so in
       cc))
 ]
+
+-- what is below a key stands before what isn't
+pub parted_below : {X : Type 0} (key : X → List ℕ) (k : List ℕ) (xs : List X) → KeysRise key xs → IsPartitionedBy (λ x. is_below (key x) k) xs
+parted_below {X} key k xs rise i j d le within so = elim (cases_eq i j) [
+  | inl is ↦ ap (λ (n : ℕ). is_below (key (get_or xs n d)) k) is ∙ so
+  | inr other ↦ below_trans (key (get_or xs i d)) (key (get_or xs j d)) k (rise_at key xs rise i j d (omega arith) within) so
+]

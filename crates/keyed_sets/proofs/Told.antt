@@ -1,6 +1,7 @@
 -- What is claimed of pages where they are told, and shelves that were only read.
 use Rattle.std.proofs.Common.{◌≡◌, ℕ, false, List, Option, Some, None, Result, Ok, Err, refl, subst, ◌∙◌}
-use Rattle.std.specs.Prelude.{IfSome, OnOk, is_err}
+use Rattle.std.specs.Prelude.{IfSome, OnOk, is_err, ⊤}
+use Rattle.std.proofs.lemmas.Option.{MatchOption-at_some}
 use Rattle.hal_base.specs.declared.pages.SetId.{SetId}
 use Rattle.hal_base.specs.Pages.{SameSets}
 use Rattle.keyed_sets.specs.Shelves.{OnlyRead}
@@ -34,3 +35,6 @@ told_as {X} a b P same holds = subst (λ (o : Option X). IfSome o P) same holds
 
 pub ok_not_err : {T E : Type 0} (r : Result T E) (t : T) (e : E) → r ≡ Ok t → r ≡ Err e → ⊥
 ok_not_err r t e ok err = cc
+
+pub told_at : {X : Type 0} (o : Option X) (x : X) (P : X → Type 0) → o ≡ Some x → IfSome o P → P x
+told_at o x P is holds = MatchOption-at_some ⊤ P x is holds

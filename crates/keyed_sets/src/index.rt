@@ -22,3 +22,12 @@ pub(crate) fn starts_upto(firsts: &[First], key: &[u8]) -> usize
 {
     firsts.partition_point(|first| !is_below(key, first.key.as_slice()))
 }
+
+/// How many of the pages that rise begin below this key.
+pub(crate) fn starts_below(firsts: &[First], key: &[u8]) -> usize
+    ensures within { result ≤ length firsts.now }
+    ensures below { KeysRise (λ first. first.key) firsts.now → AllWithin (λ first. is_below first.key key.now ≡ true) firsts.now 0 result }
+    ensures from { KeysRise (λ first. first.key) firsts.now → AllWithin (λ first. is_below first.key key.now ≡ false) firsts.now result (length firsts.now) }
+{
+    firsts.partition_point(|first| is_below(first.key.as_slice(), key))
+}

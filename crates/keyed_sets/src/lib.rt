@@ -13,6 +13,7 @@ mod edit;
 mod fetch;
 mod index;
 mod lookup;
+mod neighbours;
 mod open;
 mod opening;
 mod page;

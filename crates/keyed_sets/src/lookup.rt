@@ -17,7 +17,8 @@ use std::alloc::Global;
 /// The row at a place has this key.
 pub(crate) fn holds_key(shape: RowShape, page: &[u8; BLOCK], at: u16, key: &[u8]) -> bool
     requires { HasPlace shape page.now }
-    ensures { IsTrue result ↔ ((at < count_of page.now) × (option_map (λ row. row.0) (slice_get (rows_in shape page.now) at) ≡ Some key.now)) }
+    ensures short { IsTrue result → at < 65535 }
+    ensures holds { IsTrue result ↔ ((at < count_of page.now) × (option_map (λ row. row.0) (slice_get (rows_in shape page.now) at) ≡ Some key.now)) }
 {
     at < count_in(page) && key_at(shape, page, at) == key
 }
