@@ -10,6 +10,10 @@ pub mod Maps
 pub mod Edited
 pub mod Lookups
 pub mod NextRows
+pub mod Numbers
+pub mod Placing
+pub mod Removes
+pub mod Removals
 pub mod Members
 pub mod Sets
 pub mod PageByPage

@@ -58,7 +58,7 @@ missing_at rows at key rise place missing x c is =
 pub page_is : (shape : RowShape) (pages : List (List ℕ)) (n : ℕ) (page : List ℕ) → slice_get pages n ≡ Some page → page_rows (tables shape pages) n ≡ rows_in shape page
 page_is shape pages n page there = get_or-map (rows_in shape) pages n page [] (slice_get_within pages n page there) ∙ ap (rows_in shape) (get_or_from_slice_get pages n page page there)
 
-above_all : (shape : RowShape) (pages : List (List ℕ)) (firsts : List First) (empty : List ℕ) (key : List ℕ) → Stands shape firsts empty pages → IsSplit key firsts 0 → (x : Row) → Contains (rows_of shape pages) x → is_below key (x.0) ≡ true
+pub above_all : (shape : RowShape) (pages : List (List ℕ)) (firsts : List First) (empty : List ℕ) (key : List ℕ) → Stands shape firsts empty pages → IsSplit key firsts 0 → (x : Row) → Contains (rows_of shape pages) x → is_below key (x.0) ≡ true
 above_all shape pages firsts empty key stands split x c = elim (side_of (tables shape pages) firsts 0 no_first no_first (lawful shape pages stands.rule) stands.index split.within (λ some. absurd (omega arith)) x (row_in shape pages x c)) [
   | Here some d ↦ absurd (omega arith)
   | Lower some below ↦ absurd (omega arith)

@@ -180,17 +180,17 @@ with_row_rises row (next ∷ rows) rise = elim (three_ways (next.0) (row.0)) [
 ]
 
 -- a row taken away
-same_or : (a b : List ℕ) → (a ≡ b) ⊎ (a ≡ b → ⊥)
+pub same_or : (a b : List ℕ) → (a ≡ b) ⊎ (a ≡ b → ⊥)
 same_or a b = elim (three_ways a b) [
   | inl below ↦ inr (below_itself a b below)
   | inr (inl same) ↦ inl same
   | inr (inr above) ↦ inr (λ is. below_itself b a above (sym is))
 ]
 
-gone : (key : List ℕ) (row : Row) (rows : List Row) → row.0 ≡ key → without_row key (row ∷ rows) ≡ rows
+pub gone : (key : List ℕ) (row : Row) (rows : List Row) → row.0 ≡ key → without_row key (row ∷ rows) ≡ rows
 gone key row rows same = ap (λ (b : Bool). cond b rows (row ∷ without_row key rows)) (same_key (row.0) key same)
 
-stays : (key : List ℕ) (row : Row) (rows : List Row) → (row.0 ≡ key → ⊥) → without_row key (row ∷ rows) ≡ row ∷ without_row key rows
+pub stays : (key : List ℕ) (row : Row) (rows : List Row) → (row.0 ≡ key → ⊥) → without_row key (row ∷ rows) ≡ row ∷ without_row key rows
 stays key row rows apart = ap (λ (b : Bool). cond b rows (row ∷ without_row key rows)) (other_key (row.0) key apart)
 
 pub without_row_has : (key : List ℕ) (rows : List Row) → Rows rows → (x : Row) → Contains (without_row key rows) x → Contains rows x × (x.0 ≡ key → ⊥)

@@ -93,19 +93,22 @@ pub found_above : (key : List ℕ) (rows : List Row) (r : Row) → Rows rows →
 found_above key [] r rise is = absurd (none-some r is)
 found_above key (row ∷ rows) r rise is = elim (first_step (is_below key (row.0)) row r (first_above key rows) is) [
   | inl here ↦ (
-      subst (Contains (row ∷ rows)) (sym here.1) (at_front row rows),
-      ap (λ (x : Row). is_below key (x.0)) here.1 ∙ here.0,
-      λ y c above under. elim (front_or row rows y c) [
-        | inl same ↦ below_itself (y.0) (r.0) under (ap (λ (x : Row). x.0) (same ∙ sym here.1))
-        | inr d ↦ below_both (y.0) (r.0) under (ap (λ (x : Row). is_below (x.0) (y.0)) here.1 ∙ rise.0 y d)
-      ],
-    )
+    subst (Contains (row ∷ rows)) (sym here.1) (at_front row rows),
+    ap (λ (x : Row). is_below key (x.0)) here.1 ∙ here.0,
+    λ y c above under. elim (front_or row rows y c) [
+      | inl same ↦ below_itself (y.0) (r.0) under (ap (λ (x : Row). x.0) (same ∙ sym here.1))
+      | inr d ↦ below_both (y.0) (r.0) under (ap (λ (x : Row). is_below (x.0) (y.0)) here.1 ∙ rise.0 y d)
+    ],
+  )
   | inr later ↦
-      let found = found_above key rows r rise.1 later.1 in
-      (further row rows r found.0, found.1, λ y c above under. elim (front_or row rows y c) [
-        | inl same ↦ both_ways (is_below key (row.0)) later.0 (ap (λ (x : Row). is_below key (x.0)) (sym same) ∙ above)
-        | inr d ↦ found.2 y d above under
-      ])
+      let found = found_above key rows r rise.1 later.1 in (
+        further row rows r found.0,
+        found.1,
+        λ y c above under. elim (front_or row rows y c) [
+          | inl same ↦ both_ways (is_below key (row.0)) later.0 (ap (λ (x : Row). is_below key (x.0)) (sym same) ∙ above)
+          | inr d ↦ found.2 y d above under
+        ],
+      )
 ]
 
 none_step : (b : Bool) (row : Row) (rest : Option Row) → cond b (Some row) rest ≡ None → (b ≡ false) × (rest ≡ None)
@@ -135,7 +138,7 @@ next_here shape pages firsts empty key at p r stands split some is found =
       | Lower more below ↦ below_both key (y.0) over (below_upto (y.0) p.key key below under)
       | Behind f k le lt same d ↦
           let order : is_below p.key f.key ≡ true = subst (λ (g : First). is_below p.key g.key ≡ true) same (subst (λ (g : First). is_below g.key (get_or firsts k f).key ≡ true) (get_or_default firsts (at - 1) f p (omega (arith, split.within)) ∙ sym is)
-            (rise_at (λ (g : First). g.key) firsts stands.index.rise (at - 1) k f (omega arith) lt)) in
+          (rise_at (λ (g : First). g.key) firsts stands.index.rise (at - 1) k f (omega arith) lt)) in
           below_both (y.0) (r.0) low (before_by_first table firsts apart stands.index p f in_firsts (k, lt, same) order r y row.0 d)
     ])
 
@@ -157,7 +160,7 @@ not_lower table firsts apart index at p within is f k le lt same y c low =
           both_ways (is_below (y.0) f.key) from (ap (λ (g : First). is_below (y.0) g.key) (sym equal) ∙ low)
       | inr other ↦
           let order : is_below p.key f.key ≡ true = subst (λ (g : First). is_below p.key g.key ≡ true) same (subst (λ (g : First). is_below g.key (get_or firsts k f).key ≡ true) (get_or_default firsts at f p within ∙ is)
-            (rise_at (λ (g : First). g.key) firsts index.rise at k f (omega arith) lt)) in
+          (rise_at (λ (g : First). g.key) firsts index.rise at k f (omega arith) lt)) in
           both_ways (is_below (y.0) f.key) from (below_trans (y.0) p.key f.key low order)
     ]
 
@@ -176,12 +179,12 @@ next_behind shape pages firsts empty key at p stands split is none =
           let over : is_below key q.key ≡ true = split.above at no_first (omega arith) lt in
           let found : first_at table firsts at ≡ Some row.0 = ap (option_and_then (λ (first : First). slice_get (page_rows table first.page) 0)) (slice_get-get_or firsts at no_first lt) ∙ row.1 in
           found ∙ sym (above_is key all (rows_rise shape pages) row.0 (in_rows shape pages apart row.0 (q.page, row.2)) (ap (is_below key) row.3 ∙ over) (λ y c above low.
-            let lower : is_below (y.0) q.key ≡ true = ap (is_below (y.0)) (sym row.3) ∙ low in
-            elim (side_of table firsts at p p apart stands.index split.within is y (row_in shape pages y c)) [
-              | Here some d ↦ none_above key (page_rows table p.page) (none some) y d above
-              | Lower some below ↦ below_both key (y.0) above (below_upto (y.0) p.key key below (subst (λ (f : First). is_below key f.key ≡ false) (sym (is some)) (split.upto (at - 1) p (omega arith) (omega arith))))
-              | Behind f k le less same d ↦ not_lower table firsts apart stands.index at q lt here f k le less same y d lower
-            ]))
+          let lower : is_below (y.0) q.key ≡ true = ap (is_below (y.0)) (sym row.3) ∙ low in
+          elim (side_of table firsts at p p apart stands.index split.within is y (row_in shape pages y c)) [
+            | Here some d ↦ none_above key (page_rows table p.page) (none some) y d above
+            | Lower some below ↦ below_both key (y.0) above (below_upto (y.0) p.key key below (subst (λ (f : First). is_below key f.key ≡ false) (sym (is some)) (split.upto (at - 1) p (omega arith) (omega arith))))
+            | Behind f k le less same d ↦ not_lower table firsts apart stands.index at q lt here f k le less same y d lower
+          ]))
       | inr past ↦ ap (option_and_then (λ (first : First). slice_get (page_rows table first.page) 0)) (slice_get_past firsts at past) ∙ sym (above_none key all (λ y c above.
           elim (side_of table firsts at p p apart stands.index split.within is y (row_in shape pages y c)) [
             | Here some d ↦ none_above key (page_rows table p.page) (none some) y d above
@@ -203,12 +206,12 @@ first_of_all shape pages firsts empty stands =
           let row = first_of q.key (page_rows table q.page) (stands.index.starts q (0, lt, here)) in
           let found : first_at table firsts 0 ≡ Some row.0 = ap (option_and_then (λ (first : First). slice_get (page_rows table first.page) 0)) (slice_get-get_or firsts 0 no_first lt) ∙ row.1 in
           found ∙ sym (least_is all (rows_rise shape pages) row.0 (in_rows shape pages apart row.0 (q.page, row.2)) (λ y c low.
-            let lower : is_below (y.0) q.key ≡ true = ap (is_below (y.0)) (sym row.3) ∙ low in
-            elim (side_of table firsts 0 q q apart stands.index (omega arith) (λ some. absurd (omega arith)) y (row_in shape pages y c)) [
-              | Here some d ↦ absurd (omega arith)
-              | Lower some below ↦ absurd (omega arith)
-              | Behind f k le less same d ↦ not_lower table firsts apart stands.index 0 q lt here f k le less same y d lower
-            ]))
+          let lower : is_below (y.0) q.key ≡ true = ap (is_below (y.0)) (sym row.3) ∙ low in
+          elim (side_of table firsts 0 q q apart stands.index (omega arith) (λ some. absurd (omega arith)) y (row_in shape pages y c)) [
+            | Here some d ↦ absurd (omega arith)
+            | Lower some below ↦ absurd (omega arith)
+            | Behind f k le less same d ↦ not_lower table firsts apart stands.index 0 q lt here f k le less same y d lower
+          ]))
       | inr past ↦ ap (option_and_then (λ (first : First). slice_get (page_rows table first.page) 0)) (slice_get_past firsts 0 past) ∙ sym (least_none all (λ y c.
           elim (side_of table firsts 0 no_first no_first apart stands.index (omega arith) (λ some. absurd (omega arith)) y (row_in shape pages y c)) [
             | Here some d ↦ absurd (omega arith)
@@ -312,8 +315,8 @@ pub next_ok : {E : Type 0} (r : Result (Option Row) E) (shape : RowShape) (told 
 next_ok r shape None seen firsts held empty key at from p stands same is within upto above here first none found = any_ok r (λ found. _) (λ t. tt)
 next_ok r shape (Some pages) seen firsts held empty key at from p stands same is within upto above here first none found =
     IfOk-weaker r (λ found. IfSome seen (λ pages. found ≡ first_at (tables shape pages) firsts from)) (λ found. found ≡ first_above key (rows_of shape pages)) (λ row so.
-      told_at seen pages (λ l. row ≡ first_at (tables shape l) firsts from) same so ∙ ap (first_at (tables shape pages) firsts) here
-      ∙ next_behind shape pages firsts empty key at p stands (split_from key firsts held at is within upto above stands.index.rise) first (λ some. sym (none some))) found
+    told_at seen pages (λ l. row ≡ first_at (tables shape l) firsts from) same so ∙ ap (first_at (tables shape pages) firsts) here
+    ∙ next_behind shape pages firsts empty key at p stands (split_from key firsts held at is within upto above stands.index.rise) first (λ some. sym (none some))) found
 
 pub all_ok : {E : Type 0} (r : Result (Option Row) E) (shape : RowShape) (told : Option (List (List ℕ))) (firsts : List First) (empty : List ℕ) → IfSome told (Stands shape firsts empty)
     → IfOk r (λ found. IfSome told (λ pages. found ≡ first_at (tables shape pages) firsts 0)) → IfOk r (λ found. IfSome told (λ pages. found ≡ next_after None (rows_of shape pages)))

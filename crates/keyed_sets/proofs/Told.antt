@@ -1,9 +1,10 @@
 -- What is claimed of pages where they are told, and shelves that were only read.
 use Rattle.std.proofs.Common.{◌≡◌, ℕ, false, List, Option, Some, None, Result, Ok, Err, refl, subst, ◌∙◌}
-use Rattle.std.specs.Prelude.{IfSome, OnOk, is_err, ⊤}
+use Rattle.std.specs.Prelude.{IfSome, OnOk, OnErr, is_err, ⊤}
 use Rattle.std.proofs.lemmas.Option.{MatchOption-at_some}
 use Rattle.hal_base.specs.declared.pages.SetId.{SetId}
 use Rattle.hal_base.specs.Pages.{SameSets}
+use Rattle.keyed_sets.specs.Changes.{OnlyWritten}
 use Rattle.keyed_sets.specs.Shelves.{OnlyRead}
 
 pub where_told : {X : Type 0} (o : Option X) (P : X → Type 0) → ((x : X) → o ≡ Some x → P x) → IfSome o P
@@ -38,3 +39,23 @@ ok_not_err r t e ok err = cc
 
 pub told_at : {X : Type 0} (o : Option X) (x : X) (P : X → Type 0) → o ≡ Some x → IfSome o P → P x
 told_at o x P is holds = MatchOption-at_some ⊤ P x is holds
+
+-- what was only read was changed in no other data set
+pub read_written : {S : Type 0} (told : S → SetId → Option (List (List ℕ))) (standing : S → SetId → List ℕ) (left : S → List ℕ) (goes : S → S → Type 0) (set : SetId) (a b : S) → OnlyRead told standing left goes a b → OnlyWritten told standing left goes set a b
+read_written told standing left goes set a b read = record { others = λ other apart. read.pages other; places = read.places; free = read.free; steady = read.steady }
+
+pub same_written : {S : Type 0} (told : S → SetId → Option (List (List ℕ))) (standing : S → SetId → List ℕ) (left : S → List ℕ) (goes : S → S → Type 0) (set : SetId) (a : S) → goes a a → OnlyWritten told standing left goes set a a
+same_written told standing left goes set a same = record { others = λ other apart. refl; places = λ other. refl; free = refl; steady = same }
+
+pub then_written : {S : Type 0} (told : S → SetId → Option (List (List ℕ))) (standing : S → SetId → List ℕ) (left : S → List ℕ) (goes : S → S → Type 0) (set : SetId) (a b c : S) → ((a b c : S) → goes a b → goes b c → goes a c)
+    → OnlyRead told standing left goes a b → OnlyWritten told standing left goes set b c → OnlyWritten told standing left goes set a c
+then_written told standing left goes set a b c on first second = record {
+  others = λ other apart. second.others other apart ∙ first.pages other;
+  places = λ other. second.places other ∙ first.places other;
+  free = second.free ∙ first.free;
+  steady = on a b c first.steady second.steady;
+}
+
+pub any_err : {T E P : Type 0} (r : Result T E) → P → OnErr r P
+any_err (Ok t) holds = tt
+any_err (Err e) holds = holds

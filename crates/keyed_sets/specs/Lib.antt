@@ -1,4 +1,5 @@
 pub mod Bytes
+pub mod Changes
 pub mod Layout
 pub mod Map
 pub mod Opened

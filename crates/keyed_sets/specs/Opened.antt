@@ -1,6 +1,6 @@
 -- What a set keeps in memory of its pages: the first key of each page that has rows, in order, and the numbers of those
 -- that have none.
-use Rattle.std.specs.Prelude.{◌≡◌, ℕ, ◌+◌, ◌<◌, List, [], ◌∷◌, Option, All, IfSome, Contains}
+use Rattle.std.specs.Prelude.{◌≡◌, ℕ, ◌+◌, ◌<◌, List, [], ◌∷◌, Option, All, IfSome, Contains, nat_lt, if◌then◌else◌}
 use Rattle.keyed_sets.specs.declared.row.RowShape.{RowShape}
 use Rattle.keyed_sets.specs.declared.index.First.{First}
 use Rattle.keyed_sets.specs.Layout.{Row}
@@ -23,6 +23,11 @@ abbrev pub empty_numbers : ℕ → List (List Row) → List ℕ
 empty_numbers at [] = []
 empty_numbers at ([] ∷ table) = at ∷ empty_numbers (at + 1) table
 empty_numbers at ((row ∷ rows) ∷ table) = empty_numbers (at + 1) table
+
+-- numbers that rise, with this one in its place
+abbrev pub with_number : ℕ → List ℕ → List ℕ
+with_number n [] = n ∷ []
+with_number n (m ∷ numbers) = if nat_lt m n then m ∷ with_number n numbers else n ∷ m ∷ numbers
 
 -- what is kept is right of these pages
 pub record Stands (shape : RowShape) (firsts : List First) (empty : List ℕ) (pages : List (List ℕ)) : Type 0 where

@@ -17,8 +17,10 @@ mod neighbours;
 mod open;
 mod opening;
 mod page;
+mod remove;
 mod row;
 mod set;
+mod stage;
 
 pub use check::{capacity, page_break};
 pub use edit::{insert_row, move_rows, remove_row};

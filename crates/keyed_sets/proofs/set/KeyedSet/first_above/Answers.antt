@@ -26,9 +26,9 @@ returns-in-Some-clause-found g c =
     let lt : at - 1 < length self.firsts.items = omega (arith, c.if-at-eq0.false, c.starts_upto-at.ensures.within, ap (λ (l : List First). length l) c.deref.ensures.value) in
     let p : First = get_or self.firsts.items (at - 1) no_first in
     told_both told (Stands self.shape self.firsts.items self.empty.items) (λ pages. Some c.in-Some.row ≡ first_above c.args.key.now (rows_of self.shape pages)) c.requires.opened.stands (λ pages there stands.
-      let split = split_from c.args.key.now self.firsts.items c.deref.result.now at c.deref.ensures.value c.starts_upto-at.ensures.within c.starts_upto-at.ensures.upto c.starts_upto-at.ensures.above stands.index.rise in
-      let found = told_at told pages (λ l. (first : First) → slice_get self.firsts.items (at - 1) ≡ Some first → c.in_ok-row.field-0 ≡ first_above c.args.key.now (page_rows (tables self.shape l) first.page)) there c.in_ok-row.ensures.found p (slice_get-get_or self.firsts.items (at - 1) no_first lt) in
-      sym (next_here self.shape pages self.firsts.items self.empty.items c.args.key.now at p c.in-Some.row stands split (omega (arith, c.if-at-eq0.false)) (get_or_default self.firsts.items (at - 1) no_first p lt) (sym found ∙ c.in-Some.is)))
+    let split = split_from c.args.key.now self.firsts.items c.deref.result.now at c.deref.ensures.value c.starts_upto-at.ensures.within c.starts_upto-at.ensures.upto c.starts_upto-at.ensures.above stands.index.rise in
+    let found = told_at told pages (λ l. (first : First) → slice_get self.firsts.items (at - 1) ≡ Some first → c.in_ok-row.field-0 ≡ first_above c.args.key.now (page_rows (tables self.shape l) first.page)) there c.in_ok-row.ensures.found p (slice_get-get_or self.firsts.items (at - 1) no_first lt) in
+    sym (next_here self.shape pages self.firsts.items self.empty.items c.args.key.now at p c.in-Some.row stands split (omega (arith, c.if-at-eq0.false)) (get_or_default self.firsts.items (at - 1) no_first p lt) (sym found ∙ c.in-Some.is)))
 
 pub returns-in-None-clause-found : goal.returns-in-None-clause-found
 returns-in-None-clause-found g c =
@@ -40,7 +40,7 @@ returns-in-None-clause-found g c =
     next_ok c.first_from-in-None.result self.shape told (g.H.Shelf.pages_in c.above_in.new.shelf self.set) self.firsts.items c.deref.result.now self.empty.items c.args.key.now at at p c.requires.opened.stands (c.above_in.ensures.read.pages self.set)
     c.deref.ensures.value c.starts_upto-at.ensures.within c.starts_upto-at.ensures.upto c.starts_upto-at.ensures.above refl (λ some. get_or_default self.firsts.items (at - 1) no_first p lt)
     (λ some. told_both told (λ pages. (first : First) → slice_get self.firsts.items (at - 1) ≡ Some first → c.in_ok-row.field-0 ≡ first_above c.args.key.now (page_rows (tables self.shape pages) first.page)) (λ pages. None ≡ first_above c.args.key.now (page_rows (tables self.shape pages) p.page)) c.in_ok-row.ensures.found
-      (λ pages there found. sym c.in-None.is ∙ found p (slice_get-get_or self.firsts.items (at - 1) no_first lt)))
+    (λ pages there found. sym c.in-None.is ∙ found p (slice_get-get_or self.firsts.items (at - 1) no_first lt)))
     c.first_from-in-None.ensures.found
 
 pub returns-in-None-clause-read : goal.returns-in-None-clause-read

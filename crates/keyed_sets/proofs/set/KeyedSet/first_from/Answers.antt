@@ -25,5 +25,5 @@ returns-clause-found g c =
     let at : slice_get self.firsts.items c.args.at ≡ Some p = slice_get-get_or self.firsts.items c.args.at no_first lt in
     told_both (g.H.Shelf.pages_in c.args.shelf.now self.set) (λ pages. slice_get pages p.page ≡ Some c.read_page.new.page) (λ pages. Some c.in_ok-row.row ≡ first_at (tables self.shape pages) self.firsts.items c.args.at) (c.in_ok-read_page.ensures.page p at)
     (λ pages there read.
-      sym c.in_ok-row.ensures.row ∙ ap (λ (rows : List Row). slice_get rows 0) (sym (page_is self.shape pages p.page c.read_page.new.page read))
-      ∙ ap (option_and_then (λ (first : First). slice_get (page_rows (tables self.shape pages) first.page) 0)) (sym at))
+    sym c.in_ok-row.ensures.row ∙ ap (λ (rows : List Row). slice_get rows 0) (sym (page_is self.shape pages p.page c.read_page.new.page read))
+    ∙ ap (option_and_then (λ (first : First). slice_get (page_rows (tables self.shape pages) first.page) 0)) (sym at))
