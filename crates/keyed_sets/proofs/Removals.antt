@@ -8,6 +8,8 @@ use Rattle.std.proofs.lemmas.Option.{same_Some, none-some, slice_get-get_or, sli
 use Rattle.std.proofs.lemmas.List.{get_or_default, length-map}
 use Rattle.std.proofs.lemmas.List.Elements.{Contains-get_or, All-set, All-take, All-drop, All-append, All-cons, All-head, All-tail}
 use Rattle.hal_base.specs.Pages.{SameHead}
+use Rattle.hal_base.specs.declared.pages.SetId.{SetId}
+use Rattle.keyed_sets.specs.Shelves.{OnlyRead}
 use Rattle.keyed_sets.specs.declared.row.RowShape.{RowShape}
 use Rattle.keyed_sets.specs.declared.index.First.{First}
 use Rattle.keyed_sets.specs.Changes.{placed, Changes}
@@ -221,3 +223,9 @@ pub written_head : (pages : List (List ℕ)) (p first : First) (page page2 : Lis
 written_head pages p first page page2 is read head =
     let there : slice_get pages first.page ≡ Some page = ap (λ (f : First). slice_get pages f.page) is ∙ read in
     subst (λ o. IfSome o (λ old. SameHead old page2)) (sym there) head
+
+-- a set stays open where its shelf was only read
+pub read_opened : {S : Type 0} (pages_in : S → SetId → Option (List (List ℕ))) (standing : S → SetId → List ℕ) (left : S → List ℕ) (goes : S → S → Type 0) (a b : S) (set : SetId) (shape : RowShape) (firsts : List First) (empty : List ℕ) → OnlyRead pages_in standing left goes a b
+    → IsOpened shape firsts empty (length (standing a set)) (pages_in a set) → IsOpened shape firsts empty (length (standing b set)) (pages_in b set)
+read_opened pages_in standing left goes a b set shape firsts empty read opened =
+    opened_as shape shape firsts firsts empty empty (length (standing a set)) (length (standing b set)) (pages_in a set) (pages_in b set) refl refl refl (ap (λ (l : List ℕ). length l) (read.places set)) (read.pages set) opened

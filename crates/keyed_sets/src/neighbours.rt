@@ -111,6 +111,7 @@ impl KeyedSet {
         requires opened { IsOpened self.old.shape self.old.firsts.items self.old.empty.items (length (H.places shelf.old self.old.set)) (H.pages_in shelf.old self.old.set) }
         ensures found { IfOk result (λ found. IfSome (H.pages_in shelf.old self.old.set) (λ pages. found ≡ next_after (option_map (λ key. key.now) key.entry) (rows_of self.old.shape pages))) }
         ensures kept { self.new ≡ self.old }
+        ensures opened { IsOpened self.new.shape self.new.firsts.items self.new.empty.items (length (H.places shelf.new self.new.set)) (H.pages_in shelf.new self.new.set) }
         ensures room { IsErrOf result PageFault.NoRoom → ⊥ }
         ensures read { OnlyRead H.pages_in H.places H.free H.steady shelf.old shelf.new }
         ensures cause { HasCauseFor (H.disk_faults shelf.old) (H.disk_faults shelf.new) result PageFault.Failed }
@@ -189,6 +190,7 @@ impl KeyedSet {
         requires opened { IsOpened self.old.shape self.old.firsts.items self.old.empty.items (length (H.places shelf.old self.old.set)) (H.pages_in shelf.old self.old.set) }
         ensures found { IfOk result (λ found. IfSome (H.pages_in shelf.old self.old.set) (λ pages. found ≡ last_below key.now (rows_of self.old.shape pages))) }
         ensures kept { self.new ≡ self.old }
+        ensures opened { IsOpened self.new.shape self.new.firsts.items self.new.empty.items (length (H.places shelf.new self.new.set)) (H.pages_in shelf.new self.new.set) }
         ensures room { IsErrOf result PageFault.NoRoom → ⊥ }
         ensures read { OnlyRead H.pages_in H.places H.free H.steady shelf.old shelf.new }
         ensures cause { HasCauseFor (H.disk_faults shelf.old) (H.disk_faults shelf.new) result PageFault.Failed }

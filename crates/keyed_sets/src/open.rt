@@ -59,7 +59,7 @@ impl KeyedSet {
         requires some { 0 < key }
         requires short { key + body ≤ 2040 }
         ensures set { IfOk result (λ opened. (opened.set ≡ set) × (opened.shape ≡ record { key = key; body = body })) }
-        ensures opened { IfOk result (λ opened. IsOpened opened.shape opened.firsts.items opened.empty.items (length (H.places shelf.new set)) (H.pages_in shelf.new set)) }
+        ensures opened { IfOk result (λ opened. IsOpened opened.shape opened.firsts.items opened.empty.items (length (H.places shelf.new opened.set)) (H.pages_in shelf.new opened.set)) }
         ensures broken { (page offset : ℕ) → result ≡ Err (StoreFault.BadTile page offset) → IfSome (H.pages_in shelf.old set) (λ pages. BreaksAt (record { key = key; body = body }) pages page offset) }
         ensures read { OnlyRead H.pages_in H.places H.free H.steady shelf.old shelf.new }
         ensures cause { HasCauseFor (H.disk_faults shelf.old) (H.disk_faults shelf.new) result StoreFault.Failed }

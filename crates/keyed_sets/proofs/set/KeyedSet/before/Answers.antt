@@ -10,6 +10,7 @@ use Rattle.keyed_sets.specs.Opened.{Stands}
 use Rattle.keyed_sets.proofs.Openings.{no_first}
 use Rattle.keyed_sets.proofs.Lookups.{page_is}
 use Rattle.keyed_sets.proofs.NextRows.{IsCut, cut_from, nothing_before, last_before}
+use Rattle.keyed_sets.proofs.Removals.{read_opened}
 use Rattle.keyed_sets.proofs.Told.{told_both, told_at}
 use Rattle.keyed_sets.proofs.set.KeyedSet.before.Goals as goal
 
@@ -33,3 +34,12 @@ returns-clause-found g c =
     let same = page_is self.shape pages p.page c.find_below.new.page read in
     last_before self.shape pages self.firsts.items self.empty.items c.args.key.now at c.in_ok-found.found p c.in_ok-row.row stands cut (omega (arith, c.if-at-eq0.false)) (get_or_default self.firsts.items (at - 1) no_first p lt)
     (c.in_ok-found.ensures.found ∙ ap (place_of c.args.key.now) (sym same)) (ap (λ (l : List Row). slice_get l c.in_ok-found.found) same ∙ c.in_ok-row.ensures.row))
+
+pub returns-in_err-found-clause-opened : goal.returns-in_err-found-clause-opened
+returns-in_err-found-clause-opened g c = read_opened g.H.Shelf.pages_in g.H.Shelf.places g.H.Shelf.free g.H.Shelf.steady c.args.shelf.now c.find_below.new.shelf c.args.self.now.set c.args.self.now.shape c.args.self.now.firsts.items c.args.self.now.empty.items c.find_below.ensures.read c.requires.opened
+
+pub returns-in_err-row-clause-opened : goal.returns-in_err-row-clause-opened
+returns-in_err-row-clause-opened g c = read_opened g.H.Shelf.pages_in g.H.Shelf.places g.H.Shelf.free g.H.Shelf.steady c.args.shelf.now c.find_below.new.shelf c.args.self.now.set c.args.self.now.shape c.args.self.now.firsts.items c.args.self.now.empty.items c.find_below.ensures.read c.requires.opened
+
+pub returns-clause-opened : goal.returns-clause-opened
+returns-clause-opened g c = read_opened g.H.Shelf.pages_in g.H.Shelf.places g.H.Shelf.free g.H.Shelf.steady c.args.shelf.now c.find_below.new.shelf c.args.self.now.set c.args.self.now.shape c.args.self.now.firsts.items c.args.self.now.empty.items c.find_below.ensures.read c.requires.opened
