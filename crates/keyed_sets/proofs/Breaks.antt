@@ -22,7 +22,7 @@ is_row_page shape page placed rising kind are rises all many zeros =
     }
 
 -- where a page of rows has place for all, those that have place are its rows
-all_placed : (shape : RowShape) (page : List ℕ) → 0 < shape.key → IsRowPage shape page → min (count_of page) (capacity shape) ≡ count_of page
+pub all_placed : (shape : RowShape) (page : List ℕ) → 0 < shape.key → IsRowPage shape page → min (count_of page) (capacity shape) ≡ count_of page
 all_placed shape page some is = omega (arith, place_capacity shape (count_of page) some is.place)
 
 kind_test : (a b : Bool) (x y : ℕ) → a ≡ false → y ≡ cond (a && b) x y
@@ -31,7 +31,7 @@ kind_test a b x y is = ap (λ (c : Bool). cond (c && b) x y) (sym is)
 both_tests : (a b : Bool) (x y : ℕ) → a ≡ true → b ≡ true → x ≡ cond (a && b) x y
 both_tests a b x y is so = ap (λ (c : Bool). cond (true && c) x y) (sym so) ∙ ap (λ (c : Bool). cond (c && b) x y) (sym is)
 
-second_test : (a b : Bool) (x y : ℕ) → a ≡ true → b ≡ false → y ≡ cond (a && b) x y
+pub second_test : (a b : Bool) (x y : ℕ) → a ≡ true → b ≡ false → y ≡ cond (a && b) x y
 second_test a b x y is so = ap (λ (c : Bool). cond (true && c) x y) (sym so) ∙ ap (λ (c : Bool). cond (c && b) x y) (sym is)
 
 pub breaks_by_kind : (shape : RowShape) (page : List ℕ) → (slice_index page 0 ≡ 2 → ⊥) → (IsRowPage shape page → ⊥) × (16 ≡ break_place shape page)

@@ -1,5 +1,5 @@
--- When a page by itself is a page of rows, as soundness rule 3 asks, and where it first isn't.
-use Rattle.std.specs.Prelude.{◌≡◌, ℕ, suc, ◌+◌, ◌/◌, ◌<◌, ◌≤◌, ◌==◌, ◌&&◌, nat_lt, min, Bool, if◌then◌else◌, List, [], ◌∷◌, length, drop, slice_index}
+-- When a page by itself is a page of rows, when pages are those of a set, as soundness rule 3 asks, and where they first aren't.
+use Rattle.std.specs.Prelude.{◌≡◌, ◌⊎◌, ℕ, suc, ◌+◌, ◌/◌, ◌<◌, ◌≤◌, ◌==◌, ◌&&◌, nat_lt, min, Bool, IsTrue, if◌then◌else◌, List, [], ◌∷◌, length, map, take, drop, slice_index, slice_index_or, All, Contains}
 use Rattle.keyed_sets.specs.declared.row.RowShape.{RowShape}
 use Rattle.keyed_sets.specs.Layout.{Row, row_length, rows_from, rows_in, count_of, end_of, HasPlace, HasZeros, is_below}
 
@@ -32,3 +32,30 @@ placed_rows shape page = rows_from shape (min (count_of page) (capacity shape)) 
 abbrev pub break_place : RowShape → List ℕ → ℕ
 break_place shape page =
     if slice_index page 0 == 2 && nat_lt (rising_count (placed_rows shape page)) (length (placed_rows shape page)) then end_of shape (rising_count (placed_rows shape page)) else 16
+
+-- the rows of each page of a set, and those of the page of one number; none past the last
+abbrev pub tables : RowShape → List (List ℕ) → List (List Row)
+tables shape pages = map (rows_in shape) pages
+
+abbrev pub page_rows : List (List Row) → ℕ → List Row
+page_rows table n = slice_index_or table n []
+
+-- all keys of one page are below all keys of the other
+abbrev pub AllBelow : List Row → List Row → Type 0
+AllBelow a b = (x y : Row) → Contains a x → Contains b y → IsTrue (is_below (x.0) (y.0))
+
+-- the ranges of their keys don't overlap
+abbrev pub Apart : List Row → List Row → Type 0
+Apart a b = AllBelow a b ⊎ AllBelow b a
+
+-- each page is one of rows, and no two ranges of keys overlap
+pub record KeepsRule (shape : RowShape) (pages : List (List ℕ)) : Type 0 where
+  pub each : All (IsRowPage shape) pages
+  pub apart : (m n : ℕ) → m < n → n < length pages → Apart (page_rows (tables shape pages) m) (page_rows (tables shape pages) n)
+
+-- the first page that breaks the rule, by itself or with the pages before it, and the place in it
+pub record BreaksAt (shape : RowShape) (pages : List (List ℕ)) (page offset : ℕ) : Type 0 where
+  pub there : page < length pages
+  pub before : KeepsRule shape (take page pages)
+  pub breaks : KeepsRule shape (take (page + 1) pages) → ⊥
+  pub place : offset ≡ break_place shape (slice_index_or pages page [])

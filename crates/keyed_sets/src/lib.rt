@@ -10,13 +10,24 @@
 
 mod check;
 mod edit;
+mod fetch;
+mod index;
+mod lookup;
+mod neighbours;
+mod open;
+mod opening;
 mod page;
+mod remove;
 mod row;
+mod set;
+mod stage;
 
 pub use check::{capacity, page_break};
 pub use edit::{insert_row, move_rows, remove_row};
+pub use index::First;
 pub use page::{body_at, count_in, has_place, has_room, key_at, place_in};
 pub use row::RowShape;
+pub use set::KeyedSet;
 
 #[cfg(test)]
 mod tests;

@@ -1,0 +1,85 @@
+// Opening a set: each page is read and taken in.
+ghost use Rattle.std.specs.Prelude.{◌≡◌, ◌+◌, ◌<◌, ◌≤◌, ℕ, length, take, IfOk, IfSome, OnOk, IsTrue, All};
+ghost use Rattle.hal_base.specs.Fault.{HasCauseFor};
+ghost use Rattle.keyed_sets.specs.Opened.{IsOpened};
+ghost use Rattle.keyed_sets.specs.Opening.{TakesIn};
+ghost use Rattle.keyed_sets.specs.Rule.{BreaksAt};
+ghost use Rattle.keyed_sets.specs.Shelves.{OnlyRead};
+
+use crate::check::page_break;
+use crate::opening::Opening;
+use crate::{KeyedSet, RowShape};
+use hal_base::{BLOCK, SetId, Shelf, StoreFault};
+use std::alloc::Global;
+
+impl Opening {
+    /// Reads the page of the next number and takes in its rows.
+    fn take_page<H: Shelf>(
+        &mut self,
+        alloc: Global,
+        shelf: &mut H,
+        set: SetId,
+        shape: RowShape,
+        n: u16,
+    ) -> Result<(), StoreFault>
+        requires live { IsTrue (H.live shelf.old) }
+        requires below { n < length (H.places shelf.old set) }
+        requires some { 0 < shape.key }
+        ensures taken { OnOk result (IfSome (H.pages_in shelf.old set) (λ pages. TakesIn shape (take n pages) self.old.firsts.items self.old.lasts.items self.old.empty.items → TakesIn shape (take (n + 1) pages) self.new.firsts.items self.new.lasts.items self.new.empty.items)) }
+        ensures broken { (page offset : ℕ) → result ≡ Err (StoreFault.BadTile page offset) → IfSome (H.pages_in shelf.old set) (λ pages. TakesIn shape (take n pages) self.old.firsts.items self.old.lasts.items self.old.empty.items → BreaksAt shape pages page offset) }
+        ensures within { OnOk result ((count : ℕ) → n < count → All (λ first. first.page < count) self.old.firsts.items → All (λ first. first.page < count) self.new.firsts.items) }
+        ensures empty_within { OnOk result ((count : ℕ) → n < count → All (λ k. k < count) self.old.empty.items → All (λ k. k < count) self.new.empty.items) }
+        ensures read { OnlyRead H.pages_in H.places H.free H.steady shelf.old shelf.new }
+        ensures cause { HasCauseFor (H.disk_faults shelf.old) (H.disk_faults shelf.new) result StoreFault.Failed }
+        ensures live { (result ≡ Err StoreFault.Failed → ⊥) → IsTrue (H.live shelf.new) }
+    {
+        let mut page = [0; BLOCK];
+        if shelf.fetch_page(set, n, &mut page).is_err() {
+            return Err(StoreFault::Failed);
+        }
+        if let Some(offset) = page_break(shape, &page) {
+            return Err(StoreFault::BadTile { page: n, offset });
+        }
+        self.take_rows(alloc, shape, n, &page)
+    }
+}
+
+impl KeyedSet {
+    /// Opens the set of rows of these lengths, `key` and `body` bytes. It reads all pages. `BadTile` names the first
+    /// page that isn't one of such rows, or whose keys cross those of a page before it; and in it the first row that
+    /// has place and isn't above the one before it, or 16 where there is none or the page's kind isn't 2.
+    pub fn open<H: Shelf>(
+        alloc: Global,
+        shelf: &mut H,
+        set: SetId,
+        key: u16,
+        body: u16,
+    ) -> Result<KeyedSet, StoreFault>
+        requires live { IsTrue (H.live shelf.old) }
+        requires some { 0 < key }
+        requires short { key + body ≤ 2040 }
+        ensures set { IfOk result (λ opened. (opened.set ≡ set) × (opened.shape ≡ record { key = key; body = body })) }
+        ensures opened { IfOk result (λ opened. IsOpened opened.shape opened.firsts.items opened.empty.items (length (H.places shelf.new opened.set)) (H.pages_in shelf.new opened.set)) }
+        ensures broken { (page offset : ℕ) → result ≡ Err (StoreFault.BadTile page offset) → IfSome (H.pages_in shelf.old set) (λ pages. BreaksAt (record { key = key; body = body }) pages page offset) }
+        ensures read { OnlyRead H.pages_in H.places H.free H.steady shelf.old shelf.new }
+        ensures cause { HasCauseFor (H.disk_faults shelf.old) (H.disk_faults shelf.new) result StoreFault.Failed }
+        ensures live { (result ≡ Err StoreFault.Failed → ⊥) → IsTrue (H.live shelf.new) }
+    {
+        let shape = RowShape { key, body };
+        let mut opening = Opening::new(alloc);
+        for n in 0..shelf.pages(set) {
+            opening.take_page(alloc, shelf, set, shape, n as u16)?;
+        }
+        let Opening {
+            firsts,
+            lasts: _,
+            empty,
+        } = opening;
+        Ok(KeyedSet {
+            set,
+            shape,
+            firsts,
+            empty,
+        })
+    }
+}

@@ -1,0 +1,131 @@
+// Taking in the pages of a set, in the order of their numbers. The last keys are kept until all are taken in: with
+// the first keys they are the ranges that may not overlap.
+ghost use Rattle.std.specs.Prelude.{◌≡◌, ◌+◌, ◌-◌, ◌<◌, ◌≤◌, ℕ, List, length, slice_get, ◌++◌, ◌∷◌, [], All, IfSome, IsSomeAnd, MatchResult, IfErr, OnOk, IsErrOf, IsTrue, true, false, Contains};
+ghost use Rattle.keyed_sets.specs.Layout.{Row, rows_in, is_below};
+ghost use Rattle.keyed_sets.specs.Map.{KeysRise};
+ghost use Rattle.keyed_sets.specs.Rule.{IsRowPage, Apart, page_rows};
+ghost use Rattle.keyed_sets.specs.Opened.{StartsWith};
+ghost use Rattle.keyed_sets.specs.Opening.{EndsWith, AreTaken};
+
+use crate::RowShape;
+use crate::index::{First, starts_upto};
+use crate::page::{count_in, is_below, key_at};
+use hal_base::{BLOCK, Bytes, StoreFault};
+use std::alloc::Global;
+
+/// The pages that were taken in: those with rows in the order of their first keys, with their last keys beside
+/// them, and the numbers of those without.
+#[derive(Drop)]
+pub(crate) struct Opening {
+    pub(crate) firsts: Vec<First>,
+    pub(crate) lasts: Vec<Bytes>,
+    pub(crate) empty: Vec<u16>,
+}
+
+/// The page before this place, if there is one, ends below the key.
+fn ends_below(lasts: &[Bytes], at: usize, key: &[u8]) -> bool
+    ensures yes { result ≡ true → 0 < at → IfSome (slice_get lasts.now (at - 1)) (λ last. is_below last key.now ≡ true) }
+    ensures crossed { result ≡ false → (0 < at) × IsSomeAnd (slice_get lasts.now (at - 1)) (λ last. is_below last key.now ≡ false) }
+{
+    if at == 0 {
+        return true;
+    }
+    match lasts.get(at - 1) {
+        Some(last) => is_below(last.as_slice(), key),
+        None => true,
+    }
+}
+
+/// The page at this place, if there is one, begins above the key.
+fn begins_above(firsts: &[First], at: usize, key: &[u8]) -> bool
+    ensures yes { result ≡ true → IfSome (slice_get firsts.now at) (λ first. is_below key.now first.key ≡ true) }
+    ensures crossed { result ≡ false → IsSomeAnd (slice_get firsts.now at) (λ first. is_below key.now first.key ≡ false) }
+{
+    match firsts.get(at) {
+        Some(first) => is_below(key, first.key.as_slice()),
+        None => true,
+    }
+}
+
+impl Opening {
+    pub(crate) fn new(alloc: Global) -> Opening
+        ensures firsts { result.firsts.items ≡ [] }
+        ensures lasts { result.lasts.items ≡ [] }
+        ensures empty { result.empty.items ≡ [] }
+    {
+        Opening {
+            firsts: Vec::new(alloc),
+            lasts: Vec::new(alloc),
+            empty: Vec::new(alloc),
+        }
+    }
+
+    /// Takes in a page whose rows begin and end with these keys.
+    fn take_range(
+        &mut self,
+        alloc: Global,
+        n: u16,
+        first: &[u8],
+        last: &[u8],
+    ) -> Result<(), StoreFault>
+        ensures taken { OnOk result ((table : List (List Row)) (rows : List Row) → AreTaken table self.old.firsts.items self.old.lasts.items self.old.empty.items → n ≡ length table → KeysRise (λ row. row.0) rows → StartsWith first.now rows → EndsWith last.now rows → AreTaken (table ++ rows ∷ []) self.new.firsts.items self.new.lasts.items self.new.empty.items) }
+        ensures overlap { (page offset : ℕ) → result ≡ Err (StoreFault.BadTile page offset) → (page ≡ n) × (offset ≡ 16) × ((table : List (List Row)) (rows : List Row) → AreTaken table self.old.firsts.items self.old.lasts.items self.old.empty.items → n ≡ length table → KeysRise (λ row. row.0) rows → StartsWith first.now rows → EndsWith last.now rows → (m : ℕ) × (m < n) × (Apart (page_rows table m) rows → ⊥)) }
+        ensures within { OnOk result ((count : ℕ) → n < count → All (λ first. first.page < count) self.old.firsts.items → All (λ first. first.page < count) self.new.firsts.items) }
+        ensures empty { self.new.empty.items ≡ self.old.empty.items }
+        ensures failed { IsErrOf result StoreFault.Failed → ⊥ }
+    {
+        let at = starts_upto(&self.firsts, first);
+        if !ends_below(&self.lasts, at, first) || !begins_above(&self.firsts, at, last) {
+            return Err(StoreFault::BadTile {
+                page: n,
+                offset: 16,
+            });
+        }
+        let key = copied(alloc, first)?;
+        let end = copied(alloc, last)?;
+        if self.firsts.insert(at, First { key, page: n }).is_err() {
+            return Err(StoreFault::Memory);
+        }
+        if at > self.lasts.len() || self.lasts.insert(at, end).is_err() {
+            return Err(StoreFault::Memory);
+        }
+        Ok(())
+    }
+
+    /// Takes in the rows of the page of the next number. Where their range crosses that of a page before it, the
+    /// page breaks the rule.
+    pub(crate) fn take_rows(
+        &mut self,
+        alloc: Global,
+        shape: RowShape,
+        n: u16,
+        page: &[u8; BLOCK],
+    ) -> Result<(), StoreFault>
+        requires { IsRowPage shape page.now }
+        ensures taken { OnOk result ((table : List (List Row)) → AreTaken table self.old.firsts.items self.old.lasts.items self.old.empty.items → n ≡ length table → AreTaken (table ++ rows_in shape page.now ∷ []) self.new.firsts.items self.new.lasts.items self.new.empty.items) }
+        ensures overlap { (bad offset : ℕ) → result ≡ Err (StoreFault.BadTile bad offset) → (bad ≡ n) × (offset ≡ 16) × ((table : List (List Row)) → AreTaken table self.old.firsts.items self.old.lasts.items self.old.empty.items → n ≡ length table → (m : ℕ) × (m < n) × (Apart (page_rows table m) (rows_in shape page.now) → ⊥)) }
+        ensures within { OnOk result ((count : ℕ) → n < count → All (λ first. first.page < count) self.old.firsts.items → All (λ first. first.page < count) self.new.firsts.items) }
+        ensures empty_within { OnOk result ((count : ℕ) → n < count → All (λ k. k < count) self.old.empty.items → All (λ k. k < count) self.new.empty.items) }
+        ensures failed { IsErrOf result StoreFault.Failed → ⊥ }
+    {
+        let count = count_in(page);
+        if count == 0 {
+            if self.empty.push(n).is_err() {
+                return Err(StoreFault::Memory);
+            }
+            return Ok(());
+        }
+        let first = key_at(shape, page, 0);
+        let last = key_at(shape, page, count - 1);
+        self.take_range(alloc, n, first, last)
+    }
+}
+
+fn copied(alloc: Global, content: &[u8]) -> Result<Bytes, StoreFault>
+    ensures { MatchResult result (λ bytes. bytes ≡ content.now) (λ fault. fault ≡ StoreFault.Memory) }
+{
+    match Bytes::from_slice(alloc, content) {
+        Ok(bytes) => Ok(bytes),
+        Err(_) => Err(StoreFault::Memory),
+    }
+}
