@@ -13,3 +13,5 @@ pub mod Staged
 pub mod Growing
 pub mod Keeping
 pub mod RowSet
+pub mod AlikeStates
+pub mod Standing

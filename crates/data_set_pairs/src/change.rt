@@ -61,15 +61,29 @@ fn with_state(
     Ok(changed)
 }
 
-/// What a change of the state at a place comes to. It stages nothing.
+/// Whether two states differ in their cursors at most, so that the same data sets stand under them.
+fn is_alike(one: &PartState, other: &PartState) -> bool
+    ensures { IsTrue result → (one.now.part ≡ other.now.part) × (one.now.number ≡ other.now.number) × (one.now.side ≡ other.now.side) × (one.now.state ≡ other.now.state) }
+{
+    one.part == other.part
+        && one.number == other.number
+        && one.side == other.side
+        && one.state == other.state
+}
+
+/// What a change of the state at a place comes to. It stages nothing, and reads the heads only where the data sets that
+/// stand change.
 pub(crate) fn plan<B: Blocks>(
     blocks: &mut B,
     control: u32,
     indexes: u16,
     states: &Vec<PartState>,
+    table: &Table,
     place: u16,
     state: &PartState,
 ) -> Result<Change, VolWhy>
+    requires in_table { IsTable control (B.number blocks.old) table.now.pages.items (reverse table.now.free.items) }
+    requires table { IfSome (B.list blocks.old) (TableStands indexes states.now.items control table.now.pages.items (reverse table.now.free.items)) }
     requires live { IsTrue (B.live blocks.old) }
     requires number { control ≤ B.number blocks.old }
     requires place { place < length states.now.items }
@@ -89,6 +103,14 @@ pub(crate) fn plan<B: Blocks>(
     let mut block = [0; BLOCK];
     look(blocks, u32::from(place / 32), &mut block)?;
     put_row(&mut block, place % 32, state);
+    if is_alike(&states[usize::from(place)], state) {
+        let table = table.copy()?;
+        return Ok(Change {
+            states: changed,
+            table,
+            block,
+        });
+    }
     match read_table(alloc, blocks, control, indexes, &changed) {
         Ok(table) => Ok(Change {
             states: changed,
