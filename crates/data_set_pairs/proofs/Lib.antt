@@ -13,5 +13,5 @@ pub mod Staged
 pub mod Growing
 pub mod Keeping
 pub mod RowSet
-pub mod AlikeStates
 pub mod Standing
+pub mod SameNumber

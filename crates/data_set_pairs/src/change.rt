@@ -1,12 +1,12 @@
 // A partition's state, changed.
-ghost use Rattle.std.specs.Prelude.{◌≡◌, ◌+◌, ◌*◌, ◌/◌, ◌%◌, ◌<◌, ◌≤◌, ℕ, List, [], length, reverse, drop, slice_index_or, slice_set, IfOk, IfSome, OnOk, OnErr, IsErrOf, IsTrue};
+ghost use Rattle.std.specs.Prelude.{◌≡◌, ◌+◌, ◌*◌, ◌/◌, ◌%◌, ◌<◌, ◌≤◌, ℕ, List, [], length, reverse, drop, slice_index_or, slice_set, IfOk, IfSome, IfNone, OnOk, OnErr, IsErrOf, IsTrue, ◌↔◌};
 ghost use Rattle.std.specs.Option.{option_map};
 ghost use Rattle.hal_base.specs.Fault.{HasCauseFor, Rose};
 ghost use Rattle.volume_image.specs.Control.{control_row, cursor_bytes};
 ghost use Rattle.data_set_pairs.specs.Stays.{Stays};
 ghost use Rattle.data_set_pairs.specs.Table.{IsTable};
 ghost use Rattle.data_set_pairs.specs.Image.{are_known, AreNumbered, TableStands};
-ghost use Rattle.data_set_pairs.specs.Row.{with_row};
+ghost use Rattle.data_set_pairs.specs.Row.{with_row, KeepsNumber};
 
 use crate::VolWhy;
 use crate::look::look;
@@ -16,11 +16,12 @@ use hal_base::{BLOCK, Blocks, PartState};
 use std::alloc::Global;
 use volume_image::{ROW, row_of};
 
-/// What a change of a partition's state comes to: the states, the table of pages under them, and the control block.
+/// What a change of a partition's state comes to: the states, the table of pages under them where it is another, and
+/// the control block.
 #[derive(Drop)]
 pub(crate) struct Change {
     pub states: Vec<PartState>,
-    pub table: Table,
+    pub table: Option<Table>,
     pub block: [u8; BLOCK],
 }
 
@@ -61,37 +62,60 @@ fn with_state(
     Ok(changed)
 }
 
-/// Whether two states differ in their cursors at most, so that the same data sets stand under them.
-fn is_alike(one: &PartState, other: &PartState) -> bool
-    ensures { IsTrue result → (one.now.part ≡ other.now.part) × (one.now.number ≡ other.now.number) × (one.now.side ≡ other.now.side) × (one.now.state ≡ other.now.state) }
+/// Whether a state is of the same partition and reorganization number, under which no block becomes free or live.
+fn keeps_number(old: &PartState, state: &PartState) -> bool
+    ensures { IsTrue result ↔ ((state.now.part ≡ old.now.part) × (state.now.number ≡ old.now.number)) }
 {
-    one.part == other.part
-        && one.number == other.number
-        && one.side == other.side
-        && one.state == other.state
+    state.part == old.part && state.number == old.number
 }
 
-/// What a change of the state at a place comes to. It stages nothing, and reads the heads only where the data sets that
-/// stand change.
+/// The table of pages under changed states. It is read anew where the number of the partition at a place is another.
+fn table_under<B: Blocks>(
+    blocks: &mut B,
+    control: u32,
+    indexes: u16,
+    old: &PartState,
+    changed: &Vec<PartState>,
+    state: &PartState,
+) -> Result<Option<Table>, VolWhy>
+    requires live { IsTrue (B.live blocks.old) }
+    requires number { control ≤ B.number blocks.old }
+    ensures same { IfOk result (λ table. IfNone table ((state.now.part ≡ old.now.part) × (state.now.number ≡ old.now.number))) }
+    ensures table { IfOk result (λ table. IfSome table (λ t. IsTable control (B.number blocks.old) t.pages.items (reverse t.free.items))) }
+    ensures stands { IfOk result (λ table. IfSome table (λ t. IfSome (B.list blocks.old) (TableStands indexes changed.now.items control t.pages.items (reverse t.free.items)))) }
+    ensures list { B.list blocks.new ≡ B.list blocks.old }
+    ensures stays { Stays B.number B.committed B.said B.moment B.left_at B.disk_faults B.say_faults B.room blocks.old blocks.new }
+    ensures failed { IsErrOf result VolWhy.Failed → Rose (B.disk_faults blocks.old) (B.disk_faults blocks.new) }
+    ensures live { (result ≡ Err VolWhy.Failed → ⊥) → IsTrue (B.live blocks.new) }
+{
+    if keeps_number(old, state) {
+        return Ok(None);
+    }
+    let alloc = *changed.allocator();
+    match read_table(alloc, blocks, control, indexes, changed) {
+        Ok(table) => Ok(Some(table)),
+        Err(why) => Err(why),
+    }
+}
+
+/// What a change of the state at a place comes to. It stages nothing.
 pub(crate) fn plan<B: Blocks>(
     blocks: &mut B,
     control: u32,
     indexes: u16,
     states: &Vec<PartState>,
-    table: &Table,
     place: u16,
     state: &PartState,
 ) -> Result<Change, VolWhy>
-    requires in_table { IsTable control (B.number blocks.old) table.now.pages.items (reverse table.now.free.items) }
-    requires table { IfSome (B.list blocks.old) (TableStands indexes states.now.items control table.now.pages.items (reverse table.now.free.items)) }
     requires live { IsTrue (B.live blocks.old) }
     requires number { control ≤ B.number blocks.old }
     requires place { place < length states.now.items }
     requires control { place < 32 * control }
     requires short { length (cursor_bytes state.now.cursor) ≤ 120 }
     ensures states { IfOk result (λ change. change.states.items ≡ slice_set states.now.items place state.now) }
-    ensures table { IfOk result (λ change. IsTable control (B.number blocks.old) change.table.pages.items (reverse change.table.free.items)) }
-    ensures stands { IfOk result (λ change. IfSome (B.list blocks.old) (TableStands indexes change.states.items control change.table.pages.items (reverse change.table.free.items))) }
+    ensures same { IfOk result (λ change. IfNone change.table (KeepsNumber states.now.items place state.now)) }
+    ensures table { IfOk result (λ change. IfSome change.table (λ t. IsTable control (B.number blocks.old) t.pages.items (reverse t.free.items))) }
+    ensures stands { IfOk result (λ change. IfSome change.table (λ t. IfSome (B.list blocks.old) (TableStands indexes change.states.items control t.pages.items (reverse t.free.items)))) }
     ensures block { IfOk result (λ change. IfSome (B.list blocks.old) (λ list. change.block ≡ with_row (place % 32) (control_row state.now) (slice_index_or list (place / 32) []))) }
     ensures list { B.list blocks.new ≡ B.list blocks.old }
     ensures stays { Stays B.number B.committed B.said B.moment B.left_at B.disk_faults B.say_faults B.room blocks.old blocks.new }
@@ -103,15 +127,8 @@ pub(crate) fn plan<B: Blocks>(
     let mut block = [0; BLOCK];
     look(blocks, u32::from(place / 32), &mut block)?;
     put_row(&mut block, place % 32, state);
-    if is_alike(&states[usize::from(place)], state) {
-        let table = table.copy()?;
-        return Ok(Change {
-            states: changed,
-            table,
-            block,
-        });
-    }
-    match read_table(alloc, blocks, control, indexes, &changed) {
+    let old = &states[usize::from(place)];
+    match table_under(blocks, control, indexes, old, &changed, state) {
         Ok(table) => Ok(Change {
             states: changed,
             table,

@@ -42,13 +42,17 @@ pub(crate) fn put_states(
     }
 }
 
-/// Puts another table in the place of this one, which is kept aside if it is that of the last commit.
-pub(crate) fn put_table(table: &mut Table, changed: Table, kept: &mut Option<Table>)
-    ensures pages { table.new.pages.items ≡ changed.pages.items }
-    ensures free { table.new.free.items ≡ changed.free.items }
+/// Puts another table in the place of this one, if there is another. This one is kept aside if it is that of the last
+/// commit.
+pub(crate) fn put_table(table: &mut Table, changed: Option<Table>, kept: &mut Option<Table>)
+    ensures pages { table.new.pages.items ≡ last_pages changed table.old }
+    ensures free { table.new.free.items ≡ last_free changed table.old }
     ensures last_pages { last_pages kept.new table.new ≡ last_pages kept.old table.old }
     ensures last_free { last_free kept.new table.new ≡ last_free kept.old table.old }
 {
+    let Some(changed) = changed else {
+        return;
+    };
     let before = replace(table, changed);
     if kept.is_none() {
         *kept = Some(before);

@@ -17,7 +17,8 @@ use hal_base::{Blocks, PartState, StageFault};
 impl<B: Blocks> Volume<B> {
     /// Sets the state of the partition at a place, and stages its row. Under the new states each data block must be free
     /// or live, and the pages of each data set numbered from 0 on; blocks of a number that the partition has left behind
-    /// become free. Over blocks that tell nothing, states under which what is read isn't so are answered as want of memory.
+    /// become free. Only where the number is another one are the heads of the data blocks read for this. Over blocks that
+    /// tell nothing, states under which what is read isn't so are answered as want of memory.
     pub fn set_state(&mut self, place: u16, state: &PartState) -> Result<(), StageFault>
         requires live { IsTrue (B.live self.old.blocks) }
         requires place { place < length self.old.states.items }
@@ -40,7 +41,6 @@ impl<B: Blocks> Volume<B> {
             self.control,
             self.indexes,
             &self.states,
-            &self.table,
             place,
             state,
         );

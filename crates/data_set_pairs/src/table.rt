@@ -27,7 +27,7 @@ impl Table {
         }
     }
 
-    pub(crate) fn copy(&self) -> Result<Table, Memory>
+    fn copy(&self) -> Result<Table, Memory>
         ensures pages { IfOk result (λ copy. copy.pages.items ≡ self.now.pages.items) }
         ensures free { IfOk result (λ copy. copy.free.items ≡ self.now.free.items) }
     {
