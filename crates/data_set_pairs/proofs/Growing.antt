@@ -1,11 +1,10 @@
 -- A free block that becomes the next page of a data set.
-use Rattle.std.proofs.Common.{◌≡◌, ◌≢◌, ◌∙◌, ⊎_elim, ℕ, zero, suc, ◌+◌, ◌-◌, ◌*◌, ◌/◌, ◌%◌, ◌^◌, ◌<◌, ◌≤◌, Bool, true, false, cond, List, [], ◌∷◌, ◌++◌, length, length-append, length-drop, take, drop, map, get_or, Option, None, Some, nat_le, nat_lt, slice_get, slice_set, refl, sym, ap, subst, append_assoc, arith}
-use Rattle.std.specs.Prelude.{◌&&◌, ◌||◌, ◌==◌, not, All, IsTrue, IfSome, insert, filter, replicate}
+use Rattle.std.proofs.Common.{◌≡◌, ◌∙◌, ⊎_elim, ℕ, suc, ◌+◌, ◌-◌, ◌*◌, ◌^◌, ◌<◌, ◌≤◌, Bool, true, false, cond, List, [], ◌∷◌, ◌++◌, length, length-append, length-drop, take, drop, map, get_or, Option, None, Some, nat_le, nat_lt, slice_get, slice_set, refl, sym, ap, subst, arith}
+use Rattle.std.specs.Prelude.{◌&&◌, ◌||◌, ◌==◌, not, All, insert, filter, replicate}
 use Rattle.std.specs.Option.{option_map}
 use Rattle.std.specs.Int.{w16, to_be_bytes, from_be_bytes}
-use Rattle.std.specs.List.Sorted.{IsNonDecreasingBy}
-use Rattle.std.proofs.lemmas.Bool.{and_parts, and_from, eqb-true, eq-eqb, cases_lt, true≢false}
-use Rattle.std.proofs.lemmas.List.{append-nil, take-append-drop, length-take, length-set, length-map, get_or-drop, get_or_append_left, get_or-set_same}
+use Rattle.std.proofs.lemmas.Bool.{and_parts, eqb-true, cases_lt, true≢false}
+use Rattle.std.proofs.lemmas.List.{take-append-drop, length-set, get_or-drop, get_or_append_left, get_or-set_same}
 use Rattle.std.proofs.lemmas.List.Edits.{length-insert}
 use Rattle.std.proofs.lemmas.List.Elements.{All-append, All-cons, All-drop, All-head, All-set, All-tail, All-take, filter-append}
 use Rattle.std.proofs.lemmas.List.Sorted.{IsNonDecreasingBy-insert, IsPermutation-insert}
@@ -19,7 +18,7 @@ use Rattle.volume_image.specs.Header.{kind_in, set_in, page_in, is_free, is_left
 use Rattle.volume_image.specs.Pages.{same_set}
 use Rattle.data_set_pairs.specs.declared.place.PagePlace.{PagePlace}
 use Rattle.data_set_pairs.specs.Table.{HasPlace, IsBetween, IsFront, IsTable, RunFromZero, is_page_of, pages_of, places_of, set_rank}
-use Rattle.data_set_pairs.specs.Image.{is_taken, page_at, taken_pages, free_blocks, SamePages, TableStands}
+use Rattle.data_set_pairs.specs.Image.{is_taken, page_at, taken_pages, free_blocks, SamePages}
 use Rattle.data_set_pairs.specs.Volume.{IsLaidOut}
 use Rattle.data_set_pairs.specs.Shelf.{blocks_at, takes, kind_fits}
 use Rattle.data_set_pairs.specs.ShelfLaw.{rise_weaker}

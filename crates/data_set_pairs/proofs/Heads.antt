@@ -1,8 +1,7 @@
 -- The heads of the blocks at which a table's pages stand.
-use Rattle.std.proofs.Common.{◌≡◌, ◌∙◌, ℕ, suc, ◌+◌, ◌-◌, ◌<◌, ◌≤◌, Bool, true, false, cond, List, [], ◌∷◌, length, drop, map, get_or, Option, None, Some, nat_le, slice_get, refl, sym, ap, subst, arith}
+use Rattle.std.proofs.Common.{◌≡◌, ◌∙◌, ℕ, suc, ◌+◌, ◌-◌, ◌<◌, Bool, true, false, cond, List, [], ◌∷◌, length, drop, get_or, Some, nat_le, slice_get, refl, sym, ap, subst, arith}
 use Rattle.std.specs.Prelude.{◌&&◌, ◌==◌, not, All}
 use Rattle.std.specs.Option.{option_map}
-use Rattle.std.specs.List.{list_any}
 use Rattle.std.proofs.lemmas.Bool.{and_parts, and_from, eqb-true, eq-eqb, le-leb, leb-true, true≢false}
 use Rattle.std.proofs.lemmas.List.{get_or-drop, length-map}
 use Rattle.std.proofs.lemmas.List.Elements.{All-nil, All-cons, All-weaker, All-filter, filter_passes}
@@ -14,7 +13,7 @@ use Rattle.volume_image.specs.Header.{set_in, page_in}
 use Rattle.volume_image.specs.Pages.{same_set}
 use Rattle.data_set_pairs.specs.declared.place.PagePlace.{PagePlace}
 use Rattle.data_set_pairs.specs.Table.{is_page_of, pages_of, places_of, RunFromZero}
-use Rattle.data_set_pairs.specs.Image.{is_taken, page_at, taken_pages, SamePages, TableStands}
+use Rattle.data_set_pairs.specs.Image.{is_taken, page_at, taken_pages, IsPage, SamePages, TableStands}
 use Rattle.data_set_pairs.proofs.TableSteps.{set_is, own_set}
 use Rattle.data_set_pairs.proofs.Numbering.{same_any}
 
@@ -60,12 +59,6 @@ same_all test ps qs same all k d lt = by (test (get_or qs k d)) refl
     by : (b : Bool) → test (get_or qs k d) ≡ b → test (get_or qs k d) ≡ true
     by true is = is
     by false is = absurd (true≢false (sym (list_any_at (λ p. not (test p)) qs k d lt (ap not is)) ∙ sym (same_any (λ p. not (test p)) ps qs same) ∙ list_any_none (λ p. not (test p)) ps (λ i e below. ap not (all i e below))))
-
--- the head of a page's block
-pub record IsPage (indexes : ℕ) (states : List PartState) (set : SetId) (n : ℕ) (block : List ℕ) : Type 0 where
-  pub taken : is_taken indexes states block ≡ true
-  pub set_is : set_in block ≡ set
-  pub page_is : page_in block ≡ n
 
 table_heads : (indexes : ℕ) (states : List PartState) (control : ℕ) (pages : List PagePlace) (free : List ℕ) (list : List (List ℕ)) → TableStands indexes states control pages free list → All (λ p. head_at indexes states control (drop control list) p ≡ true) pages
 table_heads indexes states control pages free list table = same_all (head_at indexes states control (drop control list)) (taken_pages indexes states control (drop control list)) pages table.taken (taken_heads indexes states control (drop control list))

@@ -1,6 +1,6 @@
 -- What is kept of the last commit while a volume changes.
-use Rattle.std.proofs.Common.{◌≡◌, ◌∙◌, ℕ, Bool, true, false, List, reverse, Option, None, Some, Ok, Err, Result, refl, sym, ap, subst}
-use Rattle.std.specs.Prelude.{IsSome, IsTrue, OnOk, is_err}
+use Rattle.std.proofs.Common.{◌≡◌, ◌∙◌, ℕ, Bool, false, List, reverse, Option, None, Some, Ok, Err, Result, refl, sym, ap, subst}
+use Rattle.std.specs.Prelude.{IsSome, OnOk, is_err}
 use Rattle.std.proofs.lemmas.Bool.{true≢false}
 use Rattle.hal_base.specs.declared.place.PartState.{PartState}
 use Rattle.data_set_pairs.specs.declared.place.PagePlace.{PagePlace}

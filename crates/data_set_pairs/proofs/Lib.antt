@@ -13,4 +13,5 @@ pub mod Staged
 pub mod Growing
 pub mod Keeping
 pub mod RowSet
+pub mod Standing
 pub mod SameNumber

@@ -1,10 +1,10 @@
 -- What was read of a volume, against the rules.
-use Rattle.std.proofs.Common.{◌≡◌, ◌∙◌, ⊎_elim, ℕ, ◌*◌, ◌<◌, ◌≤◌, Bool, true, false, List, length, drop, Option, None, Some, slice_get, refl, sym, ap, subst, arith}
+use Rattle.std.proofs.Common.{◌≡◌, ◌∙◌, ⊎_elim, ℕ, ◌*◌, Bool, true, false, List, length, drop, Option, None, Some, sym, ap, subst, arith}
 use Rattle.std.specs.Prelude.{IfSome, IsTrue, All}
 use Rattle.std.proofs.lemmas.Bool.{true≢false}
 use Rattle.hal_base.specs.declared.place.PartState.{PartState}
 use Rattle.hal_schema.specs.declared.schema.Schema.{Schema}
-use Rattle.volume_image.specs.Control.{HasStates, control_count}
+use Rattle.volume_image.specs.Control.{control_count}
 use Rattle.volume_image.specs.Pages.{KeepsRule1, KeepsRule2}
 use Rattle.data_set_pairs.specs.declared.place.PagePlace.{PagePlace}
 use Rattle.data_set_pairs.specs.Reading.{HasFirstStates}

@@ -1,15 +1,15 @@
 -- A table that is in order of pages, gone through from its front.
-use Rattle.std.proofs.Common.{◌≡◌, ◌≢◌, ◌∙◌, ⊎_elim, ℕ, zero, suc, ◌+◌, ◌-◌, ◌*◌, ◌^◌, ◌<◌, ◌≤◌, Bool, true, false, cond, List, [], ◌∷◌, ◌++◌, length, length-append, length-drop, take, drop, get_or, refl, sym, ap, subst, arith}
+use Rattle.std.proofs.Common.{◌≡◌, ◌∙◌, ⊎_elim, ℕ, suc, ◌+◌, ◌*◌, ◌^◌, ◌<◌, ◌≤◌, Bool, true, false, cond, List, [], ◌∷◌, ◌++◌, length, length-append, take, drop, get_or, refl, sym, ap, arith}
 use Rattle.std.specs.Prelude.{All}
 use Rattle.std.specs.List.Sorted.{IsNonDecreasingBy}
-use Rattle.std.proofs.lemmas.Bool.{cases_lt, true≢false}
-use Rattle.std.proofs.lemmas.List.{get_or-take, get_or_append_left, append-nil, get_or_default, take-append-drop, length-take, take_all}
+use Rattle.std.proofs.lemmas.Bool.{cases_lt}
+use Rattle.std.proofs.lemmas.List.{get_or-take, get_or_append_left, append-nil, get_or_default, take-append-drop, length-take}
 use Rattle.std.proofs.lemmas.List.Elements.{filter-append, filter_more}
 use Rattle.std.proofs.Math.Seq.{get_or-append_seam, drop-cons}
 use Rattle.hal_base.specs.declared.pages.SetId.{SetId}
 use Rattle.volume_image.specs.Pages.{same_set}
 use Rattle.data_set_pairs.specs.declared.place.PagePlace.{PagePlace}
-use Rattle.data_set_pairs.specs.Table.{set_rank, page_rank, is_page_of, pages_of, RunFromZero, HasPlace}
+use Rattle.data_set_pairs.specs.Table.{set_rank, page_rank, is_page_of, pages_of, RunFromZero}
 use Rattle.data_set_pairs.proofs.TableSteps.{set_is, own_set}
 
 -- pages in order are in the order of their data sets

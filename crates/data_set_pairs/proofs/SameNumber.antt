@@ -1,19 +1,19 @@
 -- A state with the partition and the reorganization number of the one in its place leaves the table of pages as it is.
-use Rattle.std.proofs.Common.{◌≡◌, ◌∙◌, ℕ, zero, suc, ◌+◌, ◌<◌, ◌≤◌, ◌==◌, Bool, true, false, ◌&&◌, ◌||◌, not, cond, nat_lt, List, [], ◌∷◌, length, drop, reverse, slice_get, slice_set, Option, None, Some, IsTrue, subst, refl, sym, ap, arith, length-drop}
+use Rattle.std.proofs.Common.{◌≡◌, ◌∙◌, ℕ, zero, suc, ◌+◌, ◌≤◌, ◌==◌, Bool, true, false, ◌&&◌, ◌||◌, not, cond, nat_lt, List, [], ◌∷◌, length, drop, reverse, slice_get, slice_set, Option, None, Some, IsTrue, subst, refl, sym, ap, arith, length-drop}
 use Rattle.std.specs.Prelude.{filter, IfSome, IfNone}
 use Rattle.std.specs.List.{list_all, list_any}
-use Rattle.std.proofs.lemmas.Bool.{and_parts, true≢false, false≢true}
+use Rattle.std.proofs.lemmas.Bool.{and_parts, false≢true}
 use Rattle.std.proofs.lemmas.Option.{none-some, same_Some}
 use Rattle.hal_base.specs.declared.pages.SetId.{SetId}
 use Rattle.hal_base.specs.declared.place.PartState.{PartState}
-use Rattle.volume_image.specs.Header.{kind_in, set_in, leaves_behind, is_left, is_free, is_live, is_live_set, says_no_more}
+use Rattle.volume_image.specs.Header.{kind_in, set_in, leaves_behind, is_free, is_live, is_live_set, says_no_more}
 use Rattle.data_set_pairs.specs.declared.place.PagePlace.{PagePlace}
 use Rattle.data_set_pairs.specs.declared.table.Table.{Table}
 use Rattle.data_set_pairs.specs.Table.{IsTable}
 use Rattle.data_set_pairs.specs.Kept.{last_pages, last_free}
 use Rattle.data_set_pairs.specs.Volume.{IsLaidOut}
 use Rattle.data_set_pairs.specs.Row.{KeepsNumber}
-use Rattle.data_set_pairs.specs.Image.{is_taken, page_at, taken_pages, free_blocks, are_known, SamePages, TableStands}
+use Rattle.data_set_pairs.specs.Image.{is_taken, page_at, taken_pages, free_blocks, are_known, TableStands}
 
 -- ---- the free blocks
 

@@ -1,26 +1,19 @@
 -- What a table that was read from all data blocks says, once its pages are put in order.
-use Rattle.std.proofs.Common.{◌≡◌, ◌∙◌, ℕ, zero, suc, ◌+◌, ◌-◌, ◌*◌, ◌^◌, ◌<◌, ◌≤◌, Bool, true, false, cond, List, [], ◌∷◌, length, length-append, drop, map, reverse, get_or, Option, None, Some, nat_le, refl, sym, ap, subst, arith}
-use Rattle.std.specs.Prelude.{◌&&◌, ◌||◌, ◌==◌, not, All, IfSome, IsTrue}
-use Rattle.std.specs.List.{list_any}
+use Rattle.std.proofs.Common.{◌≡◌, ◌∙◌, ℕ, suc, ◌+◌, ◌^◌, ◌<◌, Bool, true, false, cond, List, [], ◌∷◌, length, drop, reverse, Option, None, Some, nat_le, refl, sym, ap, subst, arith}
+use Rattle.std.specs.Prelude.{◌||◌, not, All, IfSome, IsTrue}
 use Rattle.std.specs.List.Sorted.{IsNonDecreasingBy, IsPermutation}
-use Rattle.std.proofs.lemmas.Bool.{and_parts, and_from, le-leb, leb-true, true≢false, eq-eqb}
-use Rattle.std.proofs.lemmas.List.{length-map, length-reverse}
-use Rattle.std.proofs.lemmas.List.Elements.{All-nil, All-cons, All-weaker, All-filter, filter_passes}
-use Rattle.std.proofs.lemmas.List.Folds.{list_any_at}
-use Rattle.std.proofs.lemmas.List.Kept.{IsNonDecreasingBy-filter}
-use Rattle.std.proofs.lemmas.List.Sorted.{All-permutation, IsPermutation-sym, IsPermutation-trans, IsPermutation-reverse, length_permutation, list_any-IsPermutation, sum_by-IsPermutation}
+use Rattle.std.proofs.lemmas.Bool.{and_parts, and_from, le-leb}
+use Rattle.std.proofs.lemmas.List.{length-reverse}
+use Rattle.std.proofs.lemmas.List.Elements.{All-nil, All-cons, All-weaker}
+use Rattle.std.proofs.lemmas.List.Sorted.{All-permutation, IsPermutation-sym, IsPermutation-trans, IsPermutation-reverse, length_permutation}
 use Rattle.hal_base.specs.Pages.{rises_from}
-use Rattle.hal_base.specs.declared.pages.SetId.{SetId}
 use Rattle.hal_base.specs.declared.place.PartState.{PartState}
-use Rattle.volume_image.specs.Header.{kind_in, set_in, page_in, is_free, is_live, is_live_set, says_no_more}
-use Rattle.volume_image.specs.Pages.{same_set, is_in_set, set_blocks}
+use Rattle.volume_image.specs.Header.{is_free, is_live}
 use Rattle.data_set_pairs.specs.declared.place.PagePlace.{PagePlace}
-use Rattle.data_set_pairs.specs.Table.{set_rank, page_rank, is_page_of, pages_of, RunFromZero, HasPlace, IsBetween, IsTable}
+use Rattle.data_set_pairs.specs.Table.{page_rank, RunFromZero, HasPlace, IsBetween, IsTable}
 use Rattle.data_set_pairs.specs.ShelfLaw.{rise_weaker}
-use Rattle.data_set_pairs.specs.Image.{is_taken, page_at, taken_pages, free_blocks, are_known, AreNumbered, IsScanned, HasScanned}
-use Rattle.data_set_pairs.proofs.TableSteps.{set_is}
+use Rattle.data_set_pairs.specs.Image.{is_taken, page_at, taken_pages, free_blocks, are_known, IsScanned, HasScanned}
 use Rattle.data_set_pairs.proofs.OrderSteps.{sets_in_order}
-use Rattle.data_set_pairs.proofs.Covering.{Covers, own_place}
 use Rattle.data_set_pairs.proofs.ScanSteps.{taken_if_live, free_not_taken}
 
 -- the numbers of the blocks

@@ -1,6 +1,6 @@
 -- What a fetch and a stage of a page's block come to for the volume.
-use Rattle.std.proofs.Common.{◌≡◌, ◌≢◌, ◌∙◌, ⊎_elim, inl, inr, ℕ, ◌+◌, ◌-◌, ◌*◌, ◌/◌, ◌<◌, ◌≤◌, List, [], length, take, drop, map, get_or, Option, None, Some, Ok, Err, Result, slice_get, slice_set, refl, sym, ap, subst, arith}
-use Rattle.std.specs.Prelude.{◌⊎◌, All, IsTrue, IfSome, OnOk, OnErr}
+use Rattle.std.proofs.Common.{◌≡◌, ◌∙◌, inl, inr, ℕ, ◌-◌, ◌*◌, ◌≤◌, List, [], length, take, drop, get_or, Option, None, Some, Ok, Err, Result, slice_get, slice_set, refl, sym, ap, subst, arith}
+use Rattle.std.specs.Prelude.{◌⊎◌, IfSome, OnOk, OnErr}
 use Rattle.std.specs.Option.{option_map}
 use Rattle.std.proofs.lemmas.List.{length-set}
 use Rattle.std.proofs.lemmas.List.Elements.{All-set}
@@ -10,11 +10,11 @@ use Rattle.hal_base.specs.declared.pages.SetId.{SetId}
 use Rattle.hal_base.specs.declared.place.PartState.{PartState}
 use Rattle.data_set_pairs.specs.declared.place.PagePlace.{PagePlace}
 use Rattle.data_set_pairs.specs.Table.{IsBetween, IsTable, places_of}
-use Rattle.data_set_pairs.specs.Image.{taken_pages, free_blocks, TableStands, SamePages}
+use Rattle.data_set_pairs.specs.Image.{taken_pages, free_blocks, SamePages}
 use Rattle.data_set_pairs.specs.Volume.{IsLaidOut}
 use Rattle.data_set_pairs.specs.Shelf.{blocks_at, SameControl}
 use Rattle.data_set_pairs.specs.ShelfLaw.{places_within}
-use Rattle.data_set_pairs.proofs.Heads.{place_page, IsPage}
+use Rattle.data_set_pairs.proofs.Heads.{place_page}
 use Rattle.data_set_pairs.proofs.Staging.{alike, data_at, data_set, free_same, put_at, rows_stay, take_stays, taken_same, untouched}
 
 pub done_or_not : {T E P Q : Type 0} (r : Result T E) → OnOk r P → OnErr r Q → P ⊎ Q

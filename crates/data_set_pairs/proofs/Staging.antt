@@ -1,22 +1,16 @@
 -- A page that is staged in the place of one with the same head.
-use Rattle.std.proofs.Common.{◌≡◌, ◌≢◌, ◌∙◌, ⊎_elim, ℕ, zero, suc, ◌+◌, ◌-◌, ◌*◌, ◌/◌, ◌%◌, ◌<◌, ◌≤◌, Bool, true, false, cond, List, [], ◌∷◌, length, take, drop, map, get_or, Option, None, Some, slice_get, slice_set, slice_range, refl, sym, ap, subst, arith}
-use Rattle.std.specs.Prelude.{◌&&◌, ◌||◌, ◌==◌, not, All, IsTrue, IfSome}
-use Rattle.std.specs.Option.{option_map}
+use Rattle.std.proofs.Common.{◌≡◌, ◌≢◌, ◌∙◌, ℕ, zero, suc, ◌+◌, ◌-◌, ◌*◌, ◌/◌, ◌%◌, ◌<◌, ◌≤◌, Bool, cond, List, [], ◌∷◌, length, take, drop, get_or, Some, slice_get, slice_set, slice_range, refl, sym, ap, arith}
+use Rattle.std.specs.Prelude.{◌&&◌, ◌||◌, ◌==◌, not}
 use Rattle.std.specs.Int.{w16, from_be_bytes}
-use Rattle.std.proofs.lemmas.Bool.{true≢false}
-use Rattle.std.proofs.lemmas.List.{get_or-take, take-take, drop-take, drop-set-add, length-set, get_or-set_same, get_or-set_other, get_or-drop}
-use Rattle.std.proofs.lemmas.List.Elements.{All-set}
+use Rattle.std.proofs.lemmas.List.{get_or-take, take-take, drop-take, drop-set-add, get_or-set_same, get_or-set_other, get_or-drop}
 use Rattle.std.proofs.lemmas.Option.{none-some, same_Some}
-use Rattle.hal_base.specs.Pages.{SameHead}
 use Rattle.hal_base.specs.declared.pages.SetId.{SetId}
 use Rattle.hal_base.specs.declared.place.PartState.{PartState}
 use Rattle.volume_image.specs.Control.{row_in}
 use Rattle.volume_image.specs.Header.{kind_in, set_in, page_in, is_free, is_left, is_live_set}
 use Rattle.data_set_pairs.specs.declared.place.PagePlace.{PagePlace}
-use Rattle.data_set_pairs.specs.Table.{IsTable, places_of}
-use Rattle.data_set_pairs.specs.Image.{is_taken, page_at, taken_pages, free_blocks, TableStands}
-use Rattle.data_set_pairs.specs.Volume.{IsLaidOut}
-use Rattle.data_set_pairs.specs.Shelf.{blocks_at, SameControl}
+use Rattle.data_set_pairs.specs.Image.{is_taken, page_at, taken_pages, free_blocks}
+use Rattle.data_set_pairs.specs.Shelf.{blocks_at}
 
 -- blocks that a table doesn't tell apart
 pub record Alike (indexes : ℕ) (states : List PartState) (x y : List ℕ) : Type 0 where

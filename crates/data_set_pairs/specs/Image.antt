@@ -1,10 +1,9 @@
 -- What a table of pages says of the data blocks that it was made from.
-use Rattle.std.specs.Prelude.{◌≡◌, ◌⊎◌, ℕ, ◌+◌, ◌*◌, ◌^◌, ◌<◌, ◌≤◌, ◌==◌, Bool, true, false, ◌&&◌, ◌||◌, not, if◌then◌else◌, IsTrue, List, [], ◌∷◌, length, drop, reverse, replicate, map, filter, All, Option, Some}
-use Rattle.std.specs.List.{list_all, list_any, slice_get}
+use Rattle.std.specs.Prelude.{◌≡◌, ◌⊎◌, ℕ, ◌+◌, ◌^◌, ◌<◌, ◌==◌, Bool, false, ◌&&◌, ◌||◌, not, if◌then◌else◌, IsTrue, List, [], ◌∷◌, length, drop, reverse, map, filter, All, Option, Some}
+use Rattle.std.specs.List.{list_all, list_any}
 use Rattle.hal_base.specs.declared.pages.SetId.{SetId}
 use Rattle.hal_base.specs.declared.place.PartState.{PartState}
-use Rattle.volume_image.specs.Control.{control_row, row_in}
-use Rattle.volume_image.specs.Header.{kind_in, set_in, page_in, is_free, is_live, is_live_set}
+use Rattle.volume_image.specs.Header.{kind_in, set_in, page_in, is_free, is_live, is_live_set, says_no_more}
 use Rattle.volume_image.specs.Pages.{set_blocks}
 use Rattle.data_set_pairs.specs.declared.place.PagePlace.{PagePlace}
 use Rattle.data_set_pairs.specs.Table.{HasPlace}
@@ -29,6 +28,10 @@ free_blocks states n (block ∷ blocks) = if is_free states block then n ∷ fre
 -- each of the data blocks is free or live
 abbrev pub are_known : ℕ → List PartState → List (List ℕ) → Bool
 are_known indexes states blocks = list_all (λ block. is_free states block || is_live indexes states block) blocks
+
+-- the heads of those that aren't free say no more than a head may
+abbrev pub are_quiet : List PartState → List (List ℕ) → Bool
+are_quiet states blocks = list_all (λ block. is_free states block || says_no_more block) blocks
 
 abbrev pub HasUnknown : ℕ → List PartState → List (List ℕ) → Type 0
 HasUnknown indexes states blocks = are_known indexes states blocks ≡ false
@@ -64,3 +67,9 @@ SamePages xs ys = (test : PagePlace → Bool) → length (filter test ys) ≡ le
 pub record TableStands (indexes : ℕ) (states : List PartState) (control : ℕ) (pages : List PagePlace) (free : List ℕ) (blocks : List (List ℕ)) : Type 0 where
   pub taken : SamePages (taken_pages indexes states control (drop control blocks)) pages
   pub left : free ≡ free_blocks states control (drop control blocks)
+
+-- the block of a page of a data set: it is taken, and its head names the page
+pub record IsPage (indexes : ℕ) (states : List PartState) (set : SetId) (n : ℕ) (block : List ℕ) : Type 0 where
+  pub taken : IsTrue (is_taken indexes states block)
+  pub set_is : set_in block ≡ set
+  pub page_is : page_in block ≡ n

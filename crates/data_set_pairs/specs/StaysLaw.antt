@@ -1,8 +1,6 @@
 -- Blocks that stay, over several calls.
-use Rattle.std.proofs.Common.{◌≡◌, ◌∙◌, ℕ, ◌+◌, ◌-◌, ◌^◌, ◌≤◌, min, List, Option, None, Some, refl, sym, arith}
-use Rattle.std.proofs.lemmas.Option.{none-some, same_Some}
+use Rattle.std.proofs.Common.{◌∙◌, ℕ, ◌≤◌, List, Option, refl, arith}
 use Rattle.hal_base.specs.Room.{HasSayRoom}
-use Rattle.hal_base.specs.Stops.{LeavesOnly}
 use Rattle.hal_base.proofs.StopLemmas.{not_yet, leaves-stay}
 use Rattle.hal_base.specs.Fault.{Rose}
 use Rattle.data_set_pairs.specs.Stays.{Stays}

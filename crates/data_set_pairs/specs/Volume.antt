@@ -1,5 +1,5 @@
 -- What a volume holds in memory, and what it says of the blocks.
-use Rattle.std.specs.Prelude.{◌≡◌, ℕ, ◌*◌, ◌<◌, ◌≤◌, ⊤, List, length, reverse, replicate, All, Option, None, Some}
+use Rattle.std.specs.Prelude.{◌≡◌, ℕ, ◌*◌, ◌<◌, ◌≤◌, List, length, replicate, All, Some}
 use Rattle.std.specs.List.{slice_get}
 use Rattle.hal_schema.specs.declared.schema.Schema.{Schema}
 use Rattle.hal_base.specs.declared.place.PartState.{PartState}

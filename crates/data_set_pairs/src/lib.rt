@@ -2,8 +2,10 @@
 //! say how each partition stands.
 #![tactic(auto)]
 
+mod change;
 mod fault;
 mod kept;
+mod laws;
 mod load;
 mod look;
 mod order;
@@ -11,7 +13,6 @@ mod place;
 mod scan;
 mod set_state;
 mod shelf;
-mod state;
 mod states;
 mod store;
 mod table;

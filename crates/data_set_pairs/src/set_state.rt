@@ -9,9 +9,9 @@ ghost use Rattle.data_set_pairs.specs.Kept.{held, last_held};
 ghost use Rattle.data_set_pairs.specs.Row.{with_row};
 
 use crate::Volume;
+use crate::change::{Change, plan};
 use crate::fault::VolWhy;
 use crate::kept::{put_states, put_table};
-use crate::state::{Change, plan};
 use hal_base::{Blocks, PartState, StageFault};
 
 impl<B: Blocks> Volume<B> {

@@ -1,10 +1,9 @@
-use Rattle.std.proofs.Common.{◌≡◌, ◌∙◌, ◌<◌, ◌≤◌, ◌^◌, length, take, get_or, subst, sym, ap, refl, arith, All, IsTrue, false}
+use Rattle.std.proofs.Common.{◌∙◌, get_or, subst, sym, refl, arith}
 use Rattle.std.proofs.lemmas.Bool.{true≢false}
 use Rattle.std.proofs.lemmas.List.{take_all, get_or_default}
-use Rattle.std.proofs.lemmas.List.Elements.{All-take}
 use Rattle.std.proofs.lemmas.List.Sorted.{IsNonDecreasingBy-take}
 use Rattle.data_set_pairs.specs.declared.place.PagePlace.{PagePlace}
-use Rattle.data_set_pairs.specs.Table.{set_rank, RunFromZero, HasPlace}
+use Rattle.data_set_pairs.specs.Table.{set_rank, RunFromZero}
 use Rattle.data_set_pairs.proofs.OrderSteps.{sets_in_order, in_front, run_more, run_not}
 use Rattle.data_set_pairs.proofs.order.runs_from_zero.Goals as goal
 

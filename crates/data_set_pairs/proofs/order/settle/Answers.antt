@@ -1,4 +1,4 @@
-use Rattle.std.proofs.Common.{◌≡◌, ◌<◌, ◌^◌, sym, subst, All, List, rules}
+use Rattle.std.proofs.Common.{◌<◌, ◌^◌, sym, subst, All, List, rules}
 use Rattle.std.specs.List.Sorted.{IsNonDecreasingBy}
 use Rattle.std.proofs.lemmas.List.Sorted.{All-permutation, IsNonDecreasingBy-from_sort_by_key}
 use Rattle.data_set_pairs.specs.declared.place.PagePlace.{PagePlace}

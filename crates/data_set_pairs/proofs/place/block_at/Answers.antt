@@ -1,4 +1,4 @@
-use Rattle.std.proofs.Common.{◌≡◌, ◌∙◌, ◌+◌, ◌-◌, ◌<◌, ◌≤◌, sym, ap, length, take, arith, Some, get_or, slice_get}
+use Rattle.std.proofs.Common.{◌∙◌, ◌<◌, sym, ap, length, arith, slice_get}
 use Rattle.std.proofs.lemmas.List.{length-map}
 use Rattle.data_set_pairs.specs.declared.place.PagePlace.{PagePlace}
 use Rattle.data_set_pairs.specs.Table.{pages_of, places_of}

@@ -1,4 +1,4 @@
-use Rattle.std.proofs.Common.{◌≡◌, ◌∙◌, ◌+◌, ◌-◌, sym, ap, length, get_or, true, false, arith}
+use Rattle.std.proofs.Common.{◌≡◌, ◌∙◌, ◌-◌, sym, ap, length, get_or, true, false, arith}
 use Rattle.volume_image.specs.Pages.{same_set}
 use Rattle.data_set_pairs.specs.declared.place.PagePlace.{PagePlace}
 use Rattle.data_set_pairs.proofs.TableSteps.{count_last, count_none}

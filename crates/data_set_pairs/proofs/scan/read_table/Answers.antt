@@ -1,6 +1,5 @@
-use Rattle.std.proofs.Common.{◌≡◌, ◌∙◌, ℕ, sym}
+use Rattle.std.proofs.Common.{◌≡◌, ◌∙◌, sym}
 use Rattle.std.proofs.lemmas.Bool.{true≢false}
-use Rattle.data_set_pairs.specs.Table.{RunFromZero}
 use Rattle.data_set_pairs.proofs.ScanTable.{table_made}
 use Rattle.data_set_pairs.proofs.Numbering.{told_numbered, told_broken, table_stands}
 use Rattle.data_set_pairs.proofs.scan.read_table.Goals as goal

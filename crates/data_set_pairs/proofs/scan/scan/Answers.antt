@@ -1,5 +1,4 @@
-use Rattle.std.proofs.Common.{◌≡◌, ◌∙◌, ◌+◌, ◌-◌, ◌<◌, ◌≤◌, ℕ, sym, ap, refl, arith}
-use Rattle.std.specs.Prelude.{IfSome}
+use Rattle.std.proofs.Common.{◌≡◌, ◌∙◌, ◌+◌, ◌-◌, refl, arith}
 use Rattle.data_set_pairs.proofs.ScanSteps.{scan_none, scan_more, scan_wrong}
 use Rattle.data_set_pairs.specs.StaysLaw.{stays_none, stays_then}
 use Rattle.data_set_pairs.proofs.scan.scan.Goals as goal

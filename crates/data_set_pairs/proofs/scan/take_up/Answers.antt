@@ -1,4 +1,4 @@
-use Rattle.std.proofs.Common.{◌≡◌, ◌∙◌, ℕ, ap, sym, arith, true, false}
+use Rattle.std.proofs.Common.{◌≡◌, ◌∙◌, ℕ, ap, sym, arith}
 use Rattle.hal_base.specs.declared.pages.SetId.{SetId}
 use Rattle.data_set_pairs.specs.declared.place.PagePlace.{PagePlace}
 use Rattle.data_set_pairs.specs.Image.{page_at}

@@ -1,9 +1,9 @@
-use Rattle.std.proofs.Common.{◌≡◌, ◌∙◌, ◌+◌, ◌*◌, ℕ, List, Bool, Option, Some, length, min, slice_get, sym, ap, subst, arith}
-use Rattle.std.specs.Prelude.{IsTrue, IfSome}
+use Rattle.std.proofs.Common.{◌≡◌, ◌∙◌, ◌+◌, ◌*◌, ℕ, length, min, ap, subst, arith}
+use Rattle.std.specs.Prelude.{IfSome}
 use Rattle.volume_image.specs.Control.{control_count}
-use Rattle.data_set_pairs.specs.Reading.{HasFirstStates, HasNoStates}
+use Rattle.data_set_pairs.specs.Reading.{HasFirstStates}
 use Rattle.data_set_pairs.proofs.StateSteps.{told_more}
-use Rattle.data_set_pairs.specs.StaysLaw.{stays_none, stays_then}
+use Rattle.data_set_pairs.specs.StaysLaw.{stays_then}
 use Rattle.data_set_pairs.proofs.states.read_states.Goals as goal
 
 pub loop-number-preserved : goal.loop-number-preserved

@@ -1,4 +1,4 @@
-use Rattle.std.proofs.Common.{◌≡◌, ◌+◌, ◌*◌, ℕ, List, length, min, slice_get, Some}
+use Rattle.std.proofs.Common.{◌≡◌, ◌*◌, length, min}
 use Rattle.std.specs.Prelude.{IfSome, IsTrue}
 use Rattle.data_set_pairs.specs.Reading.{HasFirstStates}
 use Rattle.data_set_pairs.specs.Stays.{Stays}

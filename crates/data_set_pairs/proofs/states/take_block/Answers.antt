@@ -1,6 +1,5 @@
-use Rattle.std.proofs.Common.{◌≡◌, ◌∙◌, ◌+◌, ◌*◌, ◌<◌, ℕ, List, Some, Bool, true, false, length, min, slice_get, sym, ap, subst, arith}
-use Rattle.std.specs.Prelude.{MatchBool, slice_range, IsTrue}
-use Rattle.volume_image.specs.Control.{row_in}
+use Rattle.std.proofs.Common.{◌≡◌, ◌∙◌, ◌+◌, ◌*◌, ℕ, Bool, length, min, ap, subst, arith}
+use Rattle.std.specs.Prelude.{MatchBool, slice_range}
 use Rattle.data_set_pairs.specs.Reading.{HasFirstStates, HasNoStates}
 use Rattle.data_set_pairs.proofs.StateSteps.{row_at}
 use Rattle.data_set_pairs.proofs.states.take_block.Goals as goal

@@ -1,4 +1,4 @@
-use Rattle.std.proofs.Common.{◌≡◌, ◌∙◌, ◌+◌, ◌≤◌, ℕ, reverse, sym, subst, arith, List, Some, slice_get}
+use Rattle.std.proofs.Common.{◌≡◌, ◌∙◌, reverse, sym, subst, arith, List, Some, slice_get}
 use Rattle.std.proofs.lemmas.Result.{on_ok_weaker}
 use Rattle.data_set_pairs.specs.declared.place.PagePlace.{PagePlace}
 use Rattle.data_set_pairs.specs.Table.{places_of}

@@ -1,11 +1,11 @@
-use Rattle.std.proofs.Common.{◌≡◌, ◌∙◌, ◌+◌, ◌-◌, ◌*◌, ◌^◌, ◌<◌, ◌≤◌, ◌∷◌, ℕ, List, Some, Err, reverse, take, length, sym, subst, refl, ap, arith, rules, ◌++◌, []}
+use Rattle.std.proofs.Common.{◌≡◌, ◌∙◌, ◌-◌, ◌*◌, ◌^◌, ◌<◌, ◌≤◌, ◌∷◌, ℕ, List, Err, reverse, take, length, sym, subst, ap, arith, ◌++◌, []}
 use Rattle.std.specs.Option.{option_map}
 use Rattle.hal_base.specs.declared.outcome.StageFault.TheVariants.{Failed}
 use Rattle.std.proofs.lemmas.List.{length-map}
 use Rattle.data_set_pairs.specs.declared.place.PagePlace.{PagePlace}
 use Rattle.data_set_pairs.specs.Table.{HasPlace, IsFront, IsTable, pages_of, places_of}
 use Rattle.data_set_pairs.specs.Volume.{IsLaidOut}
-use Rattle.data_set_pairs.specs.Shelf.{blocks_at, SameControl}
+use Rattle.data_set_pairs.specs.Shelf.{blocks_at}
 use Rattle.data_set_pairs.specs.ShelfLaw.{few_pages}
 use Rattle.data_set_pairs.specs.Kept.{last_states, last_pages, last_free}
 use Rattle.data_set_pairs.proofs.Staged.{table_counted, laid_counted, control_staged}

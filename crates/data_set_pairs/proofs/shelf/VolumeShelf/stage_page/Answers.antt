@@ -1,10 +1,9 @@
-use Rattle.std.proofs.Common.{◌≡◌, ◌∙◌, ⊎_elim, ◌+◌, ◌*◌, ◌≤◌, ℕ, List, Some, reverse, take, length, sym, subst, refl, ap, arith, rules, slice_get}
+use Rattle.std.proofs.Common.{◌≡◌, ◌∙◌, ⊎_elim, List, Some, reverse, take, length, sym, subst, refl, ap, arith, rules, slice_get}
 use Rattle.std.specs.Option.{option_map}
 use Rattle.std.proofs.lemmas.Result.{on_ok_weaker}
 use Rattle.data_set_pairs.specs.declared.place.PagePlace.{PagePlace}
 use Rattle.data_set_pairs.specs.Table.{places_of}
-use Rattle.data_set_pairs.specs.Volume.{IsLaidOut}
-use Rattle.data_set_pairs.specs.Shelf.{blocks_at, SameControl}
+use Rattle.data_set_pairs.specs.Shelf.{blocks_at}
 use Rattle.data_set_pairs.specs.Kept.{last_states, last_pages, last_free}
 use Rattle.data_set_pairs.proofs.Staged.{done_or_not, place_number, table_counted, laid_counted, Staging, laid_staged, page_staged, others_staged, control_staged}
 use Rattle.data_set_pairs.proofs.shelf.VolumeShelf.stage_page.Goals as goal

@@ -1,4 +1,4 @@
-use Rattle.std.proofs.Common.{◌≡◌, ◌∙◌, length, rules}
+use Rattle.std.proofs.Common.{rules}
 use Rattle.data_set_pairs.proofs.VolumeSteps.{free_told}
 use Rattle.data_set_pairs.proofs.volume.Volume.free_count.Goals as goal
 

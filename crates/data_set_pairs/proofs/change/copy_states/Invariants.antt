@@ -1,5 +1,5 @@
 use Rattle.std.proofs.Common.{◌≡◌, take}
-use Rattle.data_set_pairs.proofs.state.copy_states.Given as goal
+use Rattle.data_set_pairs.proofs.change.copy_states.Given as goal
 
 abbrev pub invariant-loop-state : goal.invariant-loop-state
 invariant-loop-state l = l.copy.items ≡ take l.state-index l.states
