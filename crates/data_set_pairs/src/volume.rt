@@ -7,7 +7,7 @@ ghost use Rattle.volume_image.specs.Pages.{KeepsRule1, KeepsRule2};
 ghost use Rattle.data_set_pairs.specs.Stays.{Stays};
 ghost use Rattle.data_set_pairs.specs.Table.{IsTable, places_of};
 ghost use Rattle.data_set_pairs.specs.Volume.{BreaksOne, BreaksTwo, IsLaidOut};
-ghost use Rattle.data_set_pairs.specs.Kept.{last_states, last_pages, last_free};
+ghost use Rattle.data_set_pairs.specs.Kept.{held, last_held, last_states, last_pages, last_free};
 
 use crate::fault::{VolFault, VolWhy};
 use crate::load::load;
@@ -55,6 +55,7 @@ impl<B: Blocks> Volume<B> {
         ensures list { MatchResult result (λ volume. B.list volume.blocks ≡ B.list blocks) (λ fault. B.list fault.blocks ≡ B.list blocks) }
         ensures stays { MatchResult result (λ volume. Stays B.number B.committed B.said B.moment B.left_at B.disk_faults B.say_faults B.room blocks volume.blocks) (λ fault. Stays B.number B.committed B.said B.moment B.left_at B.disk_faults B.say_faults B.room blocks fault.blocks) }
         ensures live { MatchResult result (λ volume. IsTrue (B.live volume.blocks)) (λ fault. (fault.why ≡ VolWhy.Failed → ⊥) → IsTrue (B.live fault.blocks)) }
+        ensures last { IfOk result (λ volume. last_held volume.control volume.indexes volume.kept_states volume.states volume.kept_table volume.table ≡ held volume.control volume.indexes volume.states volume.table) }
         ensures of { IfOk result (λ volume. (volume.indexes ≡ length schema.now.indexes) × (volume.control ≡ control_count schema.now) × (length volume.states.items ≡ length schema.now.parts)) }
     {
         match load(alloc, &mut blocks, schema) {
