@@ -1,4 +1,4 @@
-//! Tests of what stands over blocks and pages: the journal over sites in memory.
+//! Tests of what stands over sites in memory: the journal, and a volume over it.
 #![tactic(auto)]
 
 ghost use Rattle.std.specs.Prelude.{◌≡◌, ◌++◌, IfOk, replicate, slice_set};
@@ -25,3 +25,5 @@ pub fn image_of(alloc: Global, gate: u8, behind: &[u8]) -> Result<Bytes, AllocEr
 
 #[cfg(test)]
 mod journal;
+#[cfg(test)]
+mod volume;
