@@ -1,7 +1,12 @@
 // The rules of definitions, and the checked schema that one says.
+ghost use Rattle.std.specs.Prelude.{◌≡◌, ◌<◌, IsTrue, length};
+ghost use Rattle.std.specs.List.{slice_get};
+ghost use Rattle.std.specs.Option.{ForSome};
+ghost use Rattle.hal_schema.specs.SegType.{path_key_bytes, type_of};
+
 use crate::definitions::*;
 use hal_base::Key;
-use hal_schema::{Schema, first_schema};
+use hal_schema::{IndexDef, Schema, SegType, first_schema};
 use partition_select::select;
 use std::alloc::Global;
 use std::test::Fail;
@@ -327,23 +332,35 @@ fn keys_are_at_most_100_and_240_bytes(rt: HostRuntime) -> Result<(), Fail> {
     Ok(())
 }
 
-/// The key of the entry that the first index has for a row of the second type, a child of the first.
-fn entry_key(alloc: Global, schema: &Schema, content: &[u8], keys: &[u8]) -> Result<Key, Fail> {
-    let types = schema.types.as_slice();
-    let indexes = schema.indexes.as_slice();
+/// Whether the first index's source is the second type, a child of the first, and these are as long as the content and
+/// the concatenated key of its rows.
+fn fits_second(types: &[SegType], indexes: &[IndexDef], content: &[u8], keys: &[u8]) -> bool
+    ensures known { IsTrue result → 0 < length indexes.now }
+    ensures content_long { IsTrue result → ForSome (slice_get indexes.now 0) (λ i. ForSome (type_of types.now i.source) (λ t. length content.now ≡ t.bytes)) }
+    ensures keys_long { IsTrue result → ForSome (slice_get indexes.now 0) (λ i. length keys.now ≡ path_key_bytes types.now i.source) }
+{
     if indexes.is_empty() || types.len() < 2 {
-        return Err(Fail::from("no index"));
+        return false;
     }
     if indexes[0].source != 2 || types[1].parent != Some(1) {
-        return Err(Fail::from("another source"));
+        return false;
     }
     let (Some(first), Some(second)) = (types[0].key, types[1].key) else {
-        return Err(Fail::from("no key"));
+        return false;
     };
-    if content.len() != types[1].bytes as usize
-        || keys.len() != first.bytes as usize + second.bytes as usize
-    {
-        return Err(Fail::from("another length"));
+    content.len() == types[1].bytes as usize
+        && keys.len() == first.bytes as usize + second.bytes as usize
+}
+
+/// The key of the entry that the first index has for a row of the second type, a child of the first.
+fn entry_key(alloc: Global, schema: &Schema, content: &[u8], keys: &[u8]) -> Result<Key, Fail> {
+    if !fits_second(
+        schema.types.as_slice(),
+        schema.indexes.as_slice(),
+        content,
+        keys,
+    ) {
+        return Err(Fail::from("another shape"));
     }
     let key = schema.entry_key(alloc, 0, content, keys)?;
     Ok(key.ok_or("no entry")?)

@@ -26,6 +26,11 @@ fn redone_byte(image: &[u8], block: u8, offset: u16) -> u8 {
     value
 }
 
+// An image whose bytes the proofs of these tests needn't know.
+fn image_with(alloc: Global, gate: u8, behind: &[u8]) -> Result<Bytes, AllocError> {
+    image_of(alloc, gate, behind)
+}
+
 fn zeros(alloc: Global) -> Result<Bytes, AllocError> {
     Ok(Bytes::from_vec(vec![in alloc; 0; BODY]?))
 }
@@ -111,7 +116,7 @@ fn a_stop_leaves_both_old_blocks_or_both_new_ones(rt: HostRuntime) -> Result<(),
 fn an_opening_redoes_an_open_journal(rt: HostRuntime) -> Result<(), Fail> {
     let alloc = rt.alloc();
     let body = body_of(alloc, 2, 1, &[0, 2])?;
-    let site = SureSite::new(alloc, image_of(alloc, 1, &body)?);
+    let site = SureSite::new(alloc, image_with(alloc, 1, &body)?);
     let mut journal = Journal::open(alloc, site, FIRST, 3).ok().ok_or("opened")?;
     for (number, value) in [(0, 8), (1, 0), (2, 8)] {
         let mut block = [1; BLOCK];
@@ -152,12 +157,12 @@ fn a_body_that_breaks_its_layout_is_damaged(rt: HostRuntime) -> Result<(), Fail>
         (2, 1, &[2, 0]),
     ];
     for (count, one, numbers) in bodies {
-        let image = image_of(alloc, 1, &body_of(alloc, count, one, numbers)?)?;
+        let image = image_with(alloc, 1, &body_of(alloc, count, one, numbers)?)?;
         assert!(rt; is_damaged(alloc, &image)?, "{count} {one}");
     }
     let whole: [&[u32]; 3] = [&[2], &[0, 2], &[0, 1, 2]];
     for numbers in whole {
-        let image = image_of(alloc, 1, &body_of(alloc, numbers.len() as u32, 1, numbers)?)?;
+        let image = image_with(alloc, 1, &body_of(alloc, numbers.len() as u32, 1, numbers)?)?;
         opened(alloc, image)?;
     }
     Ok(())
@@ -169,12 +174,12 @@ fn a_body_that_is_cut_short_is_damaged(rt: HostRuntime) -> Result<(), Fail> {
     let body = body_of(alloc, 2, 1, &[0, 2])?;
     for cut in 0..body.len() {
         if cut < 20 || cut % 67 == 0 || body.len() - cut < 20 {
-            let image = image_of(alloc, 1, &body[..cut])?;
+            let image = image_with(alloc, 1, &body[..cut])?;
             assert!(rt; is_damaged(alloc, &image)?, "{cut}");
         }
     }
     for length in [4097, 8192, 8193, BODY - 1] {
-        let image = image_of(alloc, 1, &[])?;
+        let image = image_with(alloc, 1, &[])?;
         let short = Bytes::from_slice(alloc, &image.as_slice()[..length.min(image.len())])?;
         assert!(rt; is_damaged(alloc, &short)?, "{length}");
     }
@@ -186,7 +191,7 @@ fn every_other_gate_is_closed(rt: HostRuntime) -> Result<(), Fail> {
     let alloc = rt.alloc();
     let body = body_of(alloc, 1, 1, &[0])?;
     for gate in [0, 2, 255] {
-        let site = opened(alloc, image_of(alloc, gate, &body)?)?;
+        let site = opened(alloc, image_with(alloc, gate, &body)?)?;
         assert_eq!(rt; ends(&site), (0, 0), "{gate}");
         assert_eq!(rt; byte(site.image(), 4096), gate);
     }
@@ -205,7 +210,7 @@ fn a_fault_within_an_opening_keeps_the_journal(rt: HostRuntime) -> Result<(), Fa
     for failing in 1..17 {
         let mut calls = List::new(alloc);
         calls.push(failing)?;
-        let site = MemSite::new(alloc, image_of(alloc, 1, &body)?, calls);
+        let site = MemSite::new(alloc, image_with(alloc, 1, &body)?, calls);
         let Err(fault) = Journal::open(alloc, site, FIRST, 3) else {
             return Err("a fault that isn't told".into());
         };
