@@ -89,8 +89,8 @@ apart_there : (set : SetId) (old new : List (List Tile)) (n off : ℕ) (before r
 apart_there set old new n off before run other after x cell r only apart s =
     elim (cases_eq (page_at x) n) [
       | inl same ↦ let tiles : s.tiles ≡ before ++ (run ++ after) = some_is s.tiles (before ++ (run ++ after)) (sym s.page ∙ ap (slice_get old) same ∙ r.was) in
-        stands set new x cell (before ++ (other ++ after)) s.letter (ap (slice_get new) same ∙ replaced_tiles old new n before run other after r)
-            (around before run other after off (offset_at x) cell only (apart same) (s.place, ap (λ (l : List Tile). slice_get l s.place) (sym tiles) ∙ s.tile))
+          stands set new x cell (before ++ (other ++ after)) s.letter (ap (slice_get new) same ∙ replaced_tiles old new n before run other after r)
+          (around before run other after off (offset_at x) cell only (apart same) (s.place, ap (λ (l : List Tile). slice_get l s.place) (sym tiles) ∙ s.tile))
       | inr differ ↦ stands set new x cell s.tiles s.letter (ap (λ (l : List (List Tile)). slice_get l (page_at x)) r.is ∙ set_other old n (page_at x) (before ++ (other ++ after)) differ ∙ s.page) (s.place, s.tile)
     ]
 
@@ -99,8 +99,8 @@ apart_back : (set : SetId) (old new : List (List Tile)) (n off : ℕ) (before ru
 apart_back set old new n off before run other after x cell r only apart s =
     elim (cases_eq (page_at x) n) [
       | inl same ↦ let tiles : s.tiles ≡ before ++ (other ++ after) = some_is s.tiles (before ++ (other ++ after)) (sym s.page ∙ ap (slice_get new) same ∙ replaced_tiles old new n before run other after r) in
-        stands set old x cell (before ++ (run ++ after)) s.letter (ap (slice_get old) same ∙ r.was)
-            (around before other run after off (offset_at x) cell only (apart same) (s.place, ap (λ (l : List Tile). slice_get l s.place) (sym tiles) ∙ s.tile))
+          stands set old x cell (before ++ (run ++ after)) s.letter (ap (slice_get old) same ∙ r.was)
+          (around before other run after off (offset_at x) cell only (apart same) (s.place, ap (λ (l : List Tile). slice_get l s.place) (sym tiles) ∙ s.tile))
       | inr differ ↦ stands set old x cell s.tiles s.letter (sym (ap (λ (l : List (List Tile)). slice_get l (page_at x)) r.is ∙ set_other old n (page_at x) (before ++ (other ++ after)) differ) ∙ s.page) (s.place, s.tile)
     ]
 
@@ -108,9 +108,10 @@ apart_back set old new n off before run other after x cell r only apart s =
 elsewhere : (set : SetId) (old new : List (List Tile)) (n off at : ℕ) (before run other after : List Tile) → Replaces old new n before run other after → OnlyAt off run → OnlyAt off other
     → at / 2 ^ 28 ≡ letter_index set.letter → page_at at ≡ n → offset_at at ≡ off → SameElsewhere set at old new
 elsewhere set old new n off at before run other after r only_run only_other letter page offset = λ x cell differ.
-    let apart = λ (s : x / 2 ^ 28 ≡ letter_index set.letter) (p : page_at x ≡ n) (o : offset_at x ≡ off). differ (same_address x at (s ∙ sym letter) (p ∙ sym page) (o ∙ sym offset)) in
-    ((λ s. apart_back set old new n off before run other after x cell r only_other (apart s.letter) s),
-     (λ s. apart_there set old new n off before run other after x cell r only_run (apart s.letter) s))
+    let apart = λ (s : x / 2 ^ 28 ≡ letter_index set.letter) (p : page_at x ≡ n) (o : offset_at x ≡ off). differ (same_address x at (s ∙ sym letter) (p ∙ sym page) (o ∙ sym offset)) in (
+      (λ s. apart_back set old new n off before run other after x cell r only_other (apart s.letter) s),
+      (λ s. apart_there set old new n off before run other after x cell r only_run (apart s.letter) s),
+    )
 
 -- ---- a cell that is changed, and one that is given back
 
@@ -128,8 +129,8 @@ alters shapes pages set at change old new first shelved there w = record {
       let same : w.cell ≡ cell = one_cell shapes pages old set at w.cell cell shelved here s in
       subst (λ (c : Cell). StandsAt set new at (change c)) same
       (stands set new at (change w.cell) (w.before ++ (Seg (offset_at at) (change w.cell) ∷ w.after)) s.letter
-          (replaced_tiles old new (page_at at) w.before (Seg (offset_at at) w.cell ∷ []) (Seg (offset_at at) (change w.cell) ∷ []) w.after w.replaced)
-          (in_right w.before (Seg (offset_at at) (change w.cell) ∷ w.after) (Seg (offset_at at) (change w.cell)) (0, refl)));
+      (replaced_tiles old new (page_at at) w.before (Seg (offset_at at) w.cell ∷ []) (Seg (offset_at at) (change w.cell) ∷ []) w.after w.replaced)
+      (in_right w.before (Seg (offset_at at) (change w.cell) ∷ w.after) (Seg (offset_at at) (change w.cell)) (0, refl)));
   elsewhere = elsewhere set old new (page_at at) (offset_at at) at w.before (Seg (offset_at at) w.cell ∷ []) (Seg (offset_at at) (change w.cell) ∷ []) w.after w.replaced
       (only_one (offset_at at) w.cell) (only_one (offset_at at) (change w.cell)) there.letter refl refl;
 }
@@ -161,8 +162,12 @@ drops shapes pages set at old new first shelved there w =
             | inl left ↦ absurd (omega (arith, low, before_rest shapes 16 false w.before (run ++ w.after) (Seg off cell) are left))
             | inr rest ↦ elim (in_cases (Hole w.begin w.len ∷ []) w.after (Seg off cell) rest) [
               | inl one ↦ let wrong : Hole w.begin w.len ≡ Seg off cell = in_one (Hole w.begin w.len) (Seg off cell) one in cc
-              | inr right ↦ absurd (omega (arith, high, from_start shapes ((16 + length (spelled w.before)) + length (spelled run)) (ends_in_hole (ends_in_hole false w.before) run) w.after (Seg off cell)
-                  (behind shapes (16 + length (spelled w.before)) (ends_in_hole false w.before) run w.after from_run) right))
+              | inr right ↦ absurd (omega (
+                arith,
+                high,
+                from_start shapes ((16 + length (spelled w.before)) + length (spelled run)) (ends_in_hole (ends_in_hole false w.before) run) w.after (Seg off cell)
+                    (behind shapes (16 + length (spelled w.before)) (ends_in_hole false w.before) run w.after from_run) right,
+              ))
             ]
           ];
       elsewhere = elsewhere set old new (page_at at) off at w.before run (Hole w.begin w.len ∷ []) w.after w.replaced (only_run off w.left w.cell w.right w.left_holes w.right_holes) (only_none off (Hole w.begin w.len ∷ []) refl) there.letter refl refl;
@@ -186,8 +191,8 @@ in_grown : (set : SetId) (old : List (List Tile)) (count x : ℕ) (cell : Cell) 
 in_grown set old count x cell s =
     elim (cases_lt (page_at x) (length old)) [
       | inl below ↦ let there : slice_get old (page_at x) ≡ Some (get_or old (page_at x) []) = slice_get-get_or old (page_at x) [] below in
-        let same : get_or old (page_at x) [] ≡ s.tiles = some_is (get_or old (page_at x) []) s.tiles (sym (in_left old (replicate count (Hole 16 4080 ∷ [])) (get_or old (page_at x) []) (page_at x) there) ∙ s.page) in
-        stands set old x cell s.tiles s.letter (there ∙ ap (λ (l : List Tile). Some l) same) (s.place, s.tile)
+          let same : get_or old (page_at x) [] ≡ s.tiles = some_is (get_or old (page_at x) []) s.tiles (sym (in_left old (replicate count (Hole 16 4080 ∷ [])) (get_or old (page_at x) []) (page_at x) there) ∙ s.page) in
+          stands set old x cell s.tiles s.letter (there ∙ ap (λ (l : List Tile). Some l) same) (s.place, s.tile)
       | inr past ↦ absurd (in_new set old count (page_at x) (offset_at x) cell s.tiles past s.page (s.place, s.tile))
     ]
 
@@ -253,17 +258,19 @@ above shapes pages set cell fbff fspf count at old new shelved a x other s =
     let among : slice_get (grown count old) (page_at x) ≡ Some s.tiles = in_left old (replicate count (Hole 16 4080 ∷ [])) s.tiles (page_at x) s.page in
     let first : x ≡ letter_index set.letter * 2 ^ 28 + page_at x * 2 ^ 12 + offset_at x = decoded x ∙ ap (λ (n : ℕ). n * 2 ^ 28 + page_at x * 2 ^ 12 + offset_at x) s.letter in
     let below : (page_at x < a.n) ⊎ ((page_at x ≡ a.n) × (offset_at x < off)) = elim (cases_lt (page_at x) a.n) [
-        | inl less ↦ inl less
-        | inr past ↦ elim (cases_eq (page_at x) a.n) [
-          | inl same ↦ inr (same,
-            let tiles : s.tiles ≡ a.before ++ (Hole off a.room ∷ []) = some_is s.tiles (a.before ++ (Hole off a.room ∷ [])) (sym among ∙ ap (slice_get (grown count old)) same ∙ a.takes.replaced.was) in
-            let are : AreTilesFrom shapes 16 false (a.before ++ (Hole off a.room ∷ [])) = subst (AreTilesFrom shapes 16 false) tiles (page_tiled shapes pages old (page_at x) s.tiles shelved s.page) in
-            let begins : off ≡ 16 + length (spelled a.before) = (behind shapes 16 false a.before (Hole off a.room ∷ []) are).0.0 in
-            elim (in_cases a.before (Hole off a.room ∷ []) (Seg (offset_at x) other) (s.place, ap (λ (l : List Tile). slice_get l s.place) (sym tiles) ∙ s.tile)) [
-              | inl left ↦ omega (arith, begins, before_rest shapes 16 false a.before (Hole off a.room ∷ []) (Seg (offset_at x) other) are left)
-              | inr one ↦ let wrong : Hole off a.room ≡ Seg (offset_at x) other = in_one (Hole off a.room) (Seg (offset_at x) other) one in cc
-            ])
-          | inr differ ↦ absurd (no_cell s.tiles (offset_at x) other (a.last.behind (page_at x) s.tiles (omega (arith, past, differ)) among).1 (s.place, s.tile))
-        ]
-      ] in
+      | inl less ↦ inl less
+      | inr past ↦ elim (cases_eq (page_at x) a.n) [
+        | inl same ↦ inr (
+          same,
+          let tiles : s.tiles ≡ a.before ++ (Hole off a.room ∷ []) = some_is s.tiles (a.before ++ (Hole off a.room ∷ [])) (sym among ∙ ap (slice_get (grown count old)) same ∙ a.takes.replaced.was) in
+              let are : AreTilesFrom shapes 16 false (a.before ++ (Hole off a.room ∷ [])) = subst (AreTilesFrom shapes 16 false) tiles (page_tiled shapes pages old (page_at x) s.tiles shelved s.page) in
+              let begins : off ≡ 16 + length (spelled a.before) = (behind shapes 16 false a.before (Hole off a.room ∷ []) are).0.0 in
+              elim (in_cases a.before (Hole off a.room ∷ []) (Seg (offset_at x) other) (s.place, ap (λ (l : List Tile). slice_get l s.place) (sym tiles) ∙ s.tile)) [
+                | inl left ↦ omega (arith, begins, before_rest shapes 16 false a.before (Hole off a.room ∷ []) (Seg (offset_at x) other) are left)
+                | inr one ↦ let wrong : Hole off a.room ≡ Seg (offset_at x) other = in_one (Hole off a.room) (Seg (offset_at x) other) one in cc
+              ],
+        )
+        | inr differ ↦ absurd (no_cell s.tiles (offset_at x) other (a.last.behind (page_at x) s.tiles (omega (arith, past, differ)) among).1 (s.place, s.tile))
+      ]
+    ] in
     lower x at (page_at x) a.n (offset_at x) off (letter_index set.letter) first a.takes.address below (offset_few x)

@@ -1,9 +1,10 @@
 -- What a shelf promises of its pages, blocks and free blocks holds of one in memory.
-use Rattle.std.proofs.Common.{◌≡◌, ℕ, zero, suc, ◌+◌, ◌-◌, ◌≤◌, Bool, true, false, cond, List, [], ◌∷◌, length, All, Option, Some, unwrap_or, nat_le, refl, ap, subst, arith}
+use Rattle.std.proofs.Common.{◌≡◌, ℕ, zero, suc, ◌+◌, ◌-◌, ◌≤◌, Bool, true, false, cond, List, [], ◌∷◌, length, All, Option, Some, None, unwrap_or, nat_le, refl, ap, subst, arith}
 use Rattle.std.specs.List.{range_with_len}
 use Rattle.std.proofs.lemmas.Bool.{and_from, le-leb}
 use Rattle.std.proofs.lemmas.List.FromFn.{length-range_with_len}
 use Rattle.std.proofs.lemmas.List.Elements.{All-nil, All-cons}
+use Rattle.std.proofs.lemmas.Option.{none-some}
 use Rattle.hal_base.specs.Pages.{rises_from}
 use Rattle.hal_base.specs.declared.pages.SetId.{SetId}
 use Rattle.memory_shelf.specs.Shelved.{places_of, pages_of, is_set}
@@ -53,3 +54,7 @@ pages_fit set owners held pages many whole is =
 
 pub few_in_all : (set : SetId) (owners : List SetId) (count : ℕ) → length owners ≤ count → count ≤ 65536 → length (places_of set 0 owners) + length (range_with_len (length owners) (count - length owners)) ≤ 65536
 few_in_all set owners count within near = omega (arith, few_places set 0 owners, length-range_with_len (length owners) (count - length owners), within, near)
+
+-- pages that aren't told are none
+pub no_pages : (count : ℕ) (pages : List (List ℕ)) → None ≡ Some pages → (length pages ≡ count) × All (λ page. length page ≡ 4096) pages
+no_pages count pages is = absurd (none-some pages is)

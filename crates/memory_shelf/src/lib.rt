@@ -1,8 +1,10 @@
-//! A shelf in memory, over which the stores of pages are tested.
+//! Shelves in memory, over which the stores of pages are tested: one that tells its content, and one that doesn't.
 #![tactic(auto)]
 
+mod quiet;
 mod shelf;
 
+pub use quiet::QuietShelf;
 pub use shelf::MemShelf;
 
 #[cfg(test)]

@@ -13,10 +13,10 @@ use std::alloc::Global;
 /// pages.
 #[derive(Drop)]
 pub struct MemShelf {
-    owners: Vec<SetId>,
-    pages: Vec<[u8; BLOCK]>,
-    count: u32,
-    fetches: u64,
+    pub(crate) owners: Vec<SetId>,
+    pub(crate) pages: Vec<[u8; BLOCK]>,
+    pub(crate) count: u32,
+    pub(crate) fetches: u64,
     ghost near: { count ≤ 65536 },
     ghost within: { length owners.items ≤ count },
     ghost as_many: { length pages.items ≡ length owners.items },
@@ -39,7 +39,7 @@ impl MemShelf {
 }
 
 /// The block of a data set's page.
-fn place_of(owners: &[SetId], set: SetId, page: usize) -> usize
+pub(crate) fn place_of(owners: &[SetId], set: SetId, page: usize) -> usize
     requires { page < length (places_of set 0 owners.now) }
     ensures { slice_get (places_of set 0 owners.now) page ≡ Some result }
 {
