@@ -5,7 +5,9 @@
 //!     16    rows that rise by key, one behind the other: a key and a body of the set's lengths
 //!     ..    zeros up to 4,096
 //!
-//! This is the level of one page. All calls take the page as it stands, and move no row that needn't move.
+//! The calls on one page take the page as it stands, and move no row that needn't move. A `KeyedSet` is the set over the
+//! pages of a shelf: no two pages' ranges of keys overlap, so a key belongs to one page, which is found by the first
+//! keys that are kept in memory.
 #![tactic(auto)]
 
 mod check;
