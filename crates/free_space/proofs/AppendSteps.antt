@@ -1,25 +1,21 @@
 -- A cell is appended in the last open page, or in one that was opened: what the layout is then.
-use Rattle.std.proofs.Common.{◌≡◌, ◌≢◌, ℕ, zero, suc, ◌+◌, ◌-◌, ◌*◌, ◌/◌, ◌%◌, ◌^◌, ◌<◌, ◌≤◌, ◌||◌, ◌&&◌, not, min, Bool, true, false, cond, eqb, List, [], ◌∷◌, ◌++◌, length, get_or, map, take, drop, replicate, All, Option, Some, None, refl, sym, ap, subst, ◌∙◌, append_assoc, arith, inl, inr}
-use Rattle.std.specs.Prelude.{slice_get, IsTrue}
-use Rattle.std.specs.Option.{option_map}
+use Rattle.std.proofs.Common.{◌≡◌, ◌≢◌, ℕ, zero, suc, ◌+◌, ◌%◌, ◌<◌, ◌≤◌, ◌&&◌, not, Bool, true, false, cond, eqb, List, [], ◌∷◌, ◌++◌, length, get_or, map, take, drop, replicate, All, Option, Some, None, refl, sym, ap, subst, ◌∙◌, append_assoc, arith}
+use Rattle.std.specs.Prelude.{slice_get}
 use Rattle.std.proofs.lemmas.Bool.{not_from_true, eq-eqb, eqb-true}
 use Rattle.std.proofs.Math.Nat.{mod-add-mod}
 use Rattle.std.proofs.Math.Nat.{mod-eq_of_lt}
-use Rattle.std.proofs.lemmas.List.{append-nil, length-append, length-map, length-replicate, length-drop, drop_all}
-use Rattle.std.proofs.lemmas.Option.{slice_get-map, slice_get-get_or, slice_get_within, get_or_from_slice_get}
+use Rattle.std.proofs.lemmas.List.{append-nil, length-append, length-replicate, drop_all}
+use Rattle.std.proofs.lemmas.Option.{slice_get-get_or, slice_get_within}
 use Rattle.hal_base.specs.declared.place.Shape.{Shape}
 use Rattle.hal_base.specs.declared.pages.SetId.{SetId}
-use Rattle.hal_base.specs.Pages.{SameSets, SameOthers}
 use Rattle.segment_blocks.specs.declared.tile.Cell.{Cell}
 use Rattle.segment_blocks.specs.declared.tile.Tile.{Tile}
 use Rattle.segment_blocks.specs.declared.tile.Tile.TheVariants.{Hole, Seg}
-use Rattle.segment_blocks.specs.Tiling.{spelled, spelled_hole, spelled_cell, spelling, is_hole, AreTilesFrom, IsTiling}
+use Rattle.segment_blocks.specs.Tiling.{spelled, spelled_hole, spelled_cell, AreTilesFrom, IsTiling}
 use Rattle.free_space.specs.declared.space.Space.{Space}
-use Rattle.free_space.specs.Space.{free_bytes, last_hole, AreHoles, space_of}
-use Rattle.free_space.specs.Layout.{IsLayout, HasLayout, Relaid}
-use Rattle.free_space.specs.Changes.{Replaces}
+use Rattle.free_space.specs.Space.{free_bytes, space_of}
+use Rattle.free_space.specs.Layout.{HasLayout, Relaid}
 use Rattle.free_space.specs.Placing.{length_of, grown, is_due, opened_pages, TakesHole, AppendsIn, Appends, IsLeftEmpty, IsLastPage, HasPlace, NoPlace, IsLeft, IsLastOpen, HasRoom}
-use Rattle.free_space.specs.Store.{Grows}
 use Rattle.free_space.proofs.Openings.{some_is}
 use Rattle.free_space.proofs.Runs.{length-hole, whole_length}
 use Rattle.free_space.proofs.PlaceSteps.{space_at}

@@ -1,17 +1,17 @@
 -- A layout with an empty page behind the others, and a page in which a cell took a hole.
-use Rattle.std.proofs.Common.{◌≡◌, ℕ, ◌+◌, ◌-◌, ◌<◌, ◌≤◌, inl, inr, true, false, List, [], ◌∷◌, ◌++◌, length, get_or, map, take, drop, replicate, Option, Some, None, refl, sym, ap, subst, ◌∙◌, append_assoc, arith}
+use Rattle.std.proofs.Common.{◌≡◌, ℕ, ◌+◌, ◌-◌, ◌≤◌, inl, inr, List, [], ◌∷◌, ◌++◌, length, map, replicate, Option, Some, None, refl, sym, ap, subst, ◌∙◌, arith}
 use Rattle.std.specs.Prelude.{slice_get, slice_set}
 use Rattle.std.specs.Option.{option_map}
 use Rattle.std.specs.Int.{w16, to_be_bytes}
-use Rattle.std.proofs.lemmas.List.{length_push, map-append, append-nil, length-set, same_lists}
-use Rattle.std.proofs.lemmas.Option.{slice_get_within, slice_get-get_or}
+use Rattle.std.proofs.lemmas.List.{length_push, map-append, append-nil}
+use Rattle.std.proofs.lemmas.Option.{slice_get_within}
 use Rattle.hal_base.specs.declared.place.Shape.{Shape}
 use Rattle.hal_base.specs.declared.pages.SetId.{SetId}
-use Rattle.hal_base.specs.Pages.{page_head, empty_page}
+use Rattle.hal_base.specs.Pages.{empty_page}
 use Rattle.segment_blocks.specs.declared.tile.Cell.{Cell}
 use Rattle.segment_blocks.specs.declared.tile.Tile.{Tile}
 use Rattle.segment_blocks.specs.declared.tile.Tile.TheVariants.{Hole, Seg}
-use Rattle.segment_blocks.specs.Tiling.{spelled_hole, spelled, IsTiling}
+use Rattle.segment_blocks.specs.Tiling.{spelled_hole, IsTiling}
 use Rattle.free_space.specs.declared.space.Space.{Space}
 use Rattle.free_space.specs.Address.{address}
 use Rattle.free_space.specs.Space.{space_of}
@@ -20,7 +20,7 @@ use Rattle.free_space.specs.Layout.{IsLayout, HasLayout, Relaid}
 use Rattle.free_space.specs.Placing.{length_of, grown, TakesHole}
 use Rattle.free_space.specs.Store.{KnowsLayout, StandsFor}
 use Rattle.free_space.proofs.Openings.{some_is, push_cases}
-use Rattle.free_space.proofs.Layouts.{with_page, has_set, stands_set}
+use Rattle.free_space.proofs.Layouts.{with_page, has_set}
 
 -- an empty page is one hole
 one_hole : (head : List ℕ) (len : ℕ) → spelled_hole len ≡ 0 ∷ 0 ∷ to_be_bytes w16 len ++ replicate (len - 4) 0

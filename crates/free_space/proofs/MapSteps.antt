@@ -1,8 +1,8 @@
 -- A change of a layout, seen as a change of the map from address to cell.
-use Rattle.std.proofs.Common.{◌≡◌, ◌≢◌, ℕ, zero, suc, ◌+◌, ◌-◌, ◌*◌, ◌/◌, ◌%◌, ◌^◌, ◌<◌, ◌≤◌, ◌⊎◌, inl, inr, Bool, true, false, List, [], ◌∷◌, ◌++◌, length, get_or, All, replicate, Some, refl, sym, ap, subst, ◌∙◌, arith}
-use Rattle.std.specs.Prelude.{slice_get, slice_set}
+use Rattle.std.proofs.Common.{◌≡◌, ◌≢◌, ℕ, zero, suc, ◌+◌, ◌-◌, ◌*◌, ◌/◌, ◌^◌, ◌<◌, ◌≤◌, ◌⊎◌, inl, inr, false, List, [], ◌∷◌, ◌++◌, length, get_or, replicate, Some, refl, sym, ap, subst, ◌∙◌, arith}
+use Rattle.std.specs.Prelude.{slice_get}
 use Rattle.std.proofs.lemmas.Bool.{cases_eq, cases_lt}
-use Rattle.std.proofs.lemmas.List.{length-set, length-append, length-replicate}
+use Rattle.std.proofs.lemmas.List.{length-set}
 use Rattle.std.proofs.lemmas.Option.{slice_get_within, slice_get-get_or}
 use Rattle.hal_base.specs.declared.place.Shape.{Shape}
 use Rattle.hal_base.specs.declared.pages.SetId.{SetId}
@@ -10,13 +10,13 @@ use Rattle.segment_blocks.specs.declared.tile.Cell.{Cell}
 use Rattle.segment_blocks.specs.declared.tile.Tile.{Tile}
 use Rattle.segment_blocks.specs.declared.tile.Tile.TheVariants.{Hole, Seg}
 use Rattle.segment_blocks.specs.Tiling.{spelled, AreTilesFrom, IsTiling}
-use Rattle.free_space.specs.Address.{letter_index, address, page_at, offset_at}
+use Rattle.free_space.specs.Address.{letter_index, page_at, offset_at}
 use Rattle.free_space.specs.Space.{AreHoles}
 use Rattle.free_space.specs.Gaps.{left_over}
 use Rattle.free_space.specs.Clearing.{ends_in_hole}
-use Rattle.free_space.specs.Layout.{IsLayout, StandsAt}
+use Rattle.free_space.specs.Layout.{StandsAt}
 use Rattle.free_space.specs.Changes.{Replaces, Rewrites, GivesBack}
-use Rattle.free_space.specs.Placing.{length_of, grown, TakesHole, Places, Appends, IsLastPage}
+use Rattle.free_space.specs.Placing.{length_of, grown, TakesHole, Appends}
 use Rattle.free_space.specs.MapView.{AreShelved, SameElsewhere, Adds, Alters, Drops}
 use Rattle.free_space.proofs.Openings.{some_is}
 use Rattle.free_space.proofs.Layouts.{set_same, set_other}

@@ -1,13 +1,13 @@
 -- Tiles among tiles, and where they stand in a page.
-use Rattle.std.proofs.Common.{◌≡◌, ℕ, zero, suc, ◌+◌, ◌<◌, ◌≤◌, ◌⊎◌, inl, inr, Bool, true, false, List, [], ◌∷◌, ◌++◌, length, replicate, Some, None, refl, sym, ap, subst, ◌∙◌, arith}
+use Rattle.std.proofs.Common.{◌≡◌, ℕ, zero, suc, ◌+◌, ◌<◌, ◌≤◌, ◌⊎◌, inl, inr, Bool, true, false, List, [], ◌∷◌, ◌++◌, length, replicate, Some, None, sym, ap, ◌∙◌, arith}
 use Rattle.std.specs.Prelude.{slice_get}
 use Rattle.std.proofs.lemmas.List.{length-append}
 use Rattle.hal_base.specs.declared.place.Shape.{Shape}
 use Rattle.segment_blocks.specs.declared.tile.Cell.{Cell}
 use Rattle.segment_blocks.specs.declared.tile.Tile.{Tile}
 use Rattle.segment_blocks.specs.declared.tile.Tile.TheVariants.{Hole, Seg}
-use Rattle.segment_blocks.specs.Tiling.{cell_length, shape_of, spelled_hole, spelled_cell, spelling, spelled, is_hole, IsTileAt, AreTilesFrom}
-use Rattle.free_space.specs.Space.{holds_cell, AreHoles}
+use Rattle.segment_blocks.specs.Tiling.{cell_length, shape_of, spelling, spelled, is_hole, IsTileAt, AreTilesFrom}
+use Rattle.free_space.specs.Space.{AreHoles}
 use Rattle.free_space.specs.Gaps.{tile_offset, left_over}
 use Rattle.free_space.proofs.Openings.{some_is}
 use Rattle.free_space.proofs.Runs.{length-hole, length-cell}

@@ -1,14 +1,13 @@
 -- Pages that are read one after the other, and what is known of those in front.
-use Rattle.std.proofs.Common.{◌≡◌, ℕ, zero, suc, ◌+◌, ◌<◌, ◌≤◌, ◌⊎◌, inl, inr, List, [], ◌∷◌, ◌++◌, length, get_or, map, Some, None, refl, sym, ap, subst, ◌∙◌, arith}
+use Rattle.std.proofs.Common.{◌≡◌, ℕ, zero, suc, ◌+◌, ◌⊎◌, inl, inr, List, [], ◌∷◌, ◌++◌, length, get_or, map, Some, None, refl, sym, ap, subst, ◌∙◌, arith}
 use Rattle.std.specs.Prelude.{slice_get}
 use Rattle.std.proofs.lemmas.List.{length_push, map-append}
-use Rattle.std.proofs.lemmas.Option.{slice_get_within, slice_get-get_or}
+use Rattle.std.proofs.lemmas.Option.{slice_get-get_or}
 use Rattle.hal_base.specs.declared.place.Shape.{Shape}
 use Rattle.segment_blocks.specs.declared.tile.Tile.{Tile}
 use Rattle.segment_blocks.specs.Tiling.{IsTiling}
 use Rattle.free_space.specs.declared.space.Space.{Space}
 use Rattle.free_space.specs.Space.{space_of}
-use Rattle.free_space.specs.Layout.{IsLayout}
 use Rattle.free_space.specs.Store.{KnowsLayout}
 use Rattle.free_space.specs.Opening.{IsSpaceOf, BreaksAt, FirstBreaksAt}
 

@@ -1,10 +1,10 @@
 -- A cell is placed in a page that was found or added: what the layout is then.
-use Rattle.std.proofs.Common.{◌≡◌, ℕ, zero, suc, ◌+◌, ◌<◌, ◌≤◌, inl, inr, Result, Ok, Err, List, [], ◌∷◌, ◌++◌, length, get_or, map, take, drop, Option, Some, None, refl, sym, ap, subst, ◌∙◌, arith}
+use Rattle.std.proofs.Common.{◌≡◌, ℕ, ◌+◌, ◌<◌, inl, inr, Result, Ok, Err, List, [], ◌∷◌, ◌++◌, length, get_or, map, take, drop, Option, Some, refl, sym, ap, subst, ◌∙◌, arith}
 use Rattle.std.specs.Prelude.{slice_get}
 use Rattle.std.specs.Option.{option_map}
 use Rattle.std.specs.Result.{OnErr}
-use Rattle.std.proofs.lemmas.List.{append-nil, length-map, same_lists}
-use Rattle.std.proofs.lemmas.Option.{slice_get-map, slice_get-get_or, slice_get_within}
+use Rattle.std.proofs.lemmas.List.{append-nil, same_lists}
+use Rattle.std.proofs.lemmas.Option.{slice_get-map, slice_get-get_or}
 use Rattle.hal_base.specs.declared.place.Shape.{Shape}
 use Rattle.hal_base.specs.declared.pages.SetId.{SetId}
 use Rattle.hal_base.specs.Pages.{SameSets}
@@ -17,7 +17,7 @@ use Rattle.free_space.specs.Space.{largest_hole, space_of}
 use Rattle.free_space.specs.Layout.{IsLayout, HasLayout, Relaid}
 use Rattle.free_space.specs.Placing.{length_of, grown, TakesHole, NoHoleFits, PlacesIn, Places, IsFirstWith}
 use Rattle.free_space.specs.Store.{KnowsLayout, StandsFor, Grows}
-use Rattle.free_space.proofs.Openings.{push_cases, some_is}
+use Rattle.free_space.proofs.Openings.{push_cases}
 
 abbrev pub HasOneTiling : List Shape → Type 0
 HasOneTiling shapes = (block : List ℕ) (one other : List Tile) → IsTiling shapes block one → IsTiling shapes block other → one ≡ other

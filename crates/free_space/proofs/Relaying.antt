@@ -1,12 +1,12 @@
 -- A cell that was changed in its page: what the layout is then, and that the store stands for it.
-use Rattle.std.proofs.Common.{◌≡◌, ℕ, ◌+◌, List, [], ◌∷◌, ◌++◌, length, map, Option, Some, refl, sym, ap, subst, ◌∙◌}
+use Rattle.std.proofs.Common.{◌≡◌, ℕ, List, ◌∷◌, ◌++◌, Option, Some, refl, sym, ap, ◌∙◌}
 use Rattle.std.specs.Prelude.{slice_get, slice_set}
 use Rattle.std.proofs.lemmas.List.{length-set}
 use Rattle.hal_base.specs.declared.place.Shape.{Shape}
 use Rattle.hal_base.specs.declared.pages.SetId.{SetId}
 use Rattle.segment_blocks.specs.declared.tile.Cell.{Cell}
 use Rattle.segment_blocks.specs.declared.tile.Tile.{Tile}
-use Rattle.segment_blocks.specs.declared.tile.Tile.TheVariants.{Hole, Seg}
+use Rattle.segment_blocks.specs.declared.tile.Tile.TheVariants.{Seg}
 use Rattle.segment_blocks.specs.Tiling.{IsTiling}
 use Rattle.free_space.specs.declared.space.Space.{Space}
 use Rattle.free_space.specs.Address.{page_at, offset_at}

@@ -1,5 +1,5 @@
 -- Lists of tiles, seen before and behind a place.
-use Rattle.std.proofs.Common.{◌≡◌, ℕ, zero, suc, ◌+◌, ◌-◌, ◌*◌, ◌/◌, ◌%◌, ◌^◌, ◌<◌, ◌≤◌, Bool, true, false, List, [], ◌∷◌, ◌++◌, length, get_or, take, drop, replicate, Some, refl, sym, ap, subst, ◌∙◌, append_assoc, arith}
+use Rattle.std.proofs.Common.{◌≡◌, ℕ, zero, suc, ◌+◌, ◌-◌, ◌*◌, ◌%◌, ◌^◌, ◌<◌, ◌≤◌, Bool, true, false, List, [], ◌∷◌, ◌++◌, length, get_or, take, drop, replicate, Some, refl, sym, ap, subst, ◌∙◌, append_assoc, arith}
 use Rattle.std.specs.List.{flat_map}
 use Rattle.std.specs.Int.{w16, w32, to_be_bytes}
 use Rattle.std.specs.Prelude.{slice_get}
@@ -9,7 +9,7 @@ use Rattle.hal_base.specs.declared.place.Shape.{Shape}
 use Rattle.segment_blocks.specs.declared.tile.Cell.{Cell}
 use Rattle.segment_blocks.specs.declared.tile.Tile.{Tile}
 use Rattle.segment_blocks.specs.declared.tile.Tile.TheVariants.{Hole, Seg}
-use Rattle.segment_blocks.specs.Tiling.{used_of, cell_length, shape_of, spelled_head, spelled_hole, spelled_cell, spelling, spelled, IsCell, IsHole, IsTileAt, AreTilesFrom, IsTiling, is_hole}
+use Rattle.segment_blocks.specs.Tiling.{used_of, cell_length, shape_of, spelled_head, spelled_hole, spelled_cell, spelling, spelled, IsCell, IsHole, AreTilesFrom, IsTiling, is_hole}
 use Rattle.free_space.specs.Gaps.{left_over, tile_offset}
 use Rattle.free_space.specs.Clearing.{ends_in_hole}
 

@@ -1,12 +1,10 @@
 -- A cell that becomes a hole with the holes that touch it.
-use Rattle.std.specs.Prelude.{◌≡◌, ℕ, Bool, false, List, [], ◌∷◌, ◌++◌, length}
-use Rattle.hal_base.specs.declared.place.Shape.{Shape}
+use Rattle.std.specs.Prelude.{◌≡◌, ℕ, Bool, false, List, [], ◌∷◌, ◌++◌}
 use Rattle.segment_blocks.specs.declared.tile.Cell.{Cell}
 use Rattle.segment_blocks.specs.declared.tile.Tile.{Tile}
 use Rattle.segment_blocks.specs.declared.tile.Tile.TheVariants.{Hole, Seg}
-use Rattle.segment_blocks.specs.Tiling.{is_hole, IsTiling}
-use Rattle.free_space.specs.declared.space.Space.{Space}
-use Rattle.free_space.specs.Space.{AreHoles, space_of}
+use Rattle.segment_blocks.specs.Tiling.{is_hole}
+use Rattle.free_space.specs.Space.{AreHoles}
 
 -- whether a hole ends where these tiles do, where one does before them or none
 abbrev pub ends_in_hole : Bool → List Tile → Bool

@@ -1,6 +1,6 @@
-use Rattle.std.proofs.Common.{◌≡◌, ℕ, ◌+◌, ◌≤◌, [], ◌∷◌, ◌++◌, Result, Ok, Err, List, length, Some, sym, subst, ap, ◌∙◌, rules, arith}
+use Rattle.std.proofs.Common.{◌≡◌, ℕ, ◌+◌, [], ◌∷◌, ◌++◌, Err, length, sym, subst, ◌∙◌, rules, arith}
 use Rattle.std.proofs.lemmas.Result.{err_from_is_err_and}
-use Rattle.hal_base.specs.declared.outcome.StoreFault.TheVariants.{BadTile, Failed}
+use Rattle.hal_base.specs.declared.outcome.StoreFault.TheVariants.{BadTile}
 use Rattle.free_space.proofs.Pages.{handed_on}
 use Rattle.free_space.proofs.Openings.{KnowsFront, front_all, front_more, front_breaks}
 use Rattle.free_space.proofs.open.read_spaces.Goals as goal

@@ -1,8 +1,6 @@
-use Rattle.std.proofs.Common.{◌≡◌, ◌+◌, ◌-◌, ◌≤◌, ℕ, List, [], ◌∷◌, ◌++◌, length, take, sym, ap, subst, ◌∙◌, arith}
-use Rattle.hal_base.specs.declared.place.Shape.{Shape}
-use Rattle.segment_blocks.specs.declared.tile.Tile.{Tile}
+use Rattle.std.proofs.Common.{◌≡◌, ◌+◌, ◌-◌, ◌≤◌, ℕ, [], ◌∷◌, ◌++◌, sym, ap, subst, ◌∙◌, arith}
 use Rattle.segment_blocks.specs.declared.tile.Tile.TheVariants.{Hole, Seg}
-use Rattle.segment_blocks.specs.Tiling.{cell_length, shape_of, spelling, spelled, IsCell, IsTiling, StandAround}
+use Rattle.segment_blocks.specs.Tiling.{cell_length, shape_of, spelling, IsCell, IsTiling, StandAround}
 use Rattle.free_space.specs.Gaps.{left_over}
 use Rattle.free_space.proofs.Filling.{head_kept, shape_is, is_cell, around_hole, fill_whole, fill_part}
 use Rattle.free_space.proofs.page.fill.Goals as goal

@@ -1,17 +1,16 @@
-use Rattle.std.proofs.Common.{◌≡◌, ℕ, ◌<◌, ◌≤◌, List, map, refl, sym, ap, subst, ◌∙◌, arith, length}
+use Rattle.std.proofs.Common.{◌≡◌, ℕ, ◌<◌, List, sym, ap, subst, ◌∙◌, arith, length}
 use Rattle.std.specs.Prelude.{slice_get, Some}
-use Rattle.std.specs.Result.{OnErr, IfOk}
+use Rattle.std.specs.Result.{IfOk}
 use Rattle.std.proofs.lemmas.List.{length-map}
 use Rattle.std.proofs.lemmas.Result.{IfOk-weaker, on_err_weaker, err_from_is_err_and}
 use Rattle.hal_base.specs.declared.pages.SetId.{SetId}
 use Rattle.hal_base.specs.declared.place.Shape.{Shape}
 use Rattle.hal_base.specs.declared.outcome.PageFault.TheVariants.{NoRoom}
-use Rattle.segment_blocks.specs.declared.tile.Tile.{Tile}
 use Rattle.segment_blocks.specs.Tiling.{cell_length}
 use Rattle.free_space.specs.declared.space.Space.{Space}
 use Rattle.free_space.specs.Space.{space_of}
-use Rattle.free_space.specs.Layout.{HasLayout, Relaid}
-use Rattle.free_space.specs.Placing.{length_of, grown, opened_pages, AppendsIn, Appends, NoPlace, IsLastOpen, HasRoom}
+use Rattle.free_space.specs.Layout.{Relaid}
+use Rattle.free_space.specs.Placing.{grown, opened_pages, AppendsIn, Appends, NoPlace, IsLastOpen, HasRoom}
 use Rattle.free_space.specs.Store.{Grows}
 use Rattle.free_space.proofs.Pages.{handed_on}
 use Rattle.free_space.proofs.PlaceSteps.{knows_this, grows_none, grows_same, relaid_none, relaid_kept}

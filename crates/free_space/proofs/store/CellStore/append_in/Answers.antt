@@ -1,6 +1,5 @@
-use Rattle.std.proofs.Common.{ℕ, ◌+◌, List, take, drop, ap, ◌∙◌, sym}
+use Rattle.std.proofs.Common.{◌+◌, take, drop}
 use Rattle.std.proofs.lemmas.Result.{IfOk-weaker}
-use Rattle.segment_blocks.specs.Tiling.{cell_length}
 use Rattle.free_space.specs.Layout.{Relaid}
 use Rattle.free_space.specs.Placing.{TakesHole, AppendsIn}
 use Rattle.free_space.proofs.AppendSteps.{appends_in}

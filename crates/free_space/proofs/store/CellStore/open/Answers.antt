@@ -1,4 +1,4 @@
-use Rattle.std.proofs.Common.{◌≡◌, Err, List, sym, subst, ◌∙◌}
+use Rattle.std.proofs.Common.{◌≡◌, Err, List, subst, ◌∙◌}
 use Rattle.std.proofs.lemmas.Result.{err_from_is_err_and}
 use Rattle.hal_base.specs.declared.place.Shape.{Shape}
 use Rattle.hal_base.specs.declared.outcome.StoreFault.TheVariants.{BadTile}

@@ -1,5 +1,5 @@
-use Rattle.std.proofs.Common.{◌≡◌, ℕ, ◌≤◌, List, length, ap, subst, ◌∙◌, arith, rules}
-use Rattle.std.specs.Result.{OnOk, OnErr}
+use Rattle.std.proofs.Common.{◌≡◌, List, length, subst, arith, rules}
+use Rattle.std.specs.Result.{OnOk}
 use Rattle.std.proofs.lemmas.Result.{on_ok_weaker}
 use Rattle.hal_base.specs.declared.pages.SetId.{SetId}
 use Rattle.hal_base.specs.declared.place.Shape.{Shape}

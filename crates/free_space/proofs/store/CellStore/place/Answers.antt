@@ -1,6 +1,6 @@
-use Rattle.std.proofs.Common.{◌≡◌, ℕ, ◌<◌, ◌≤◌, List, map, refl, sym, ap, subst, ◌∙◌, arith, length}
+use Rattle.std.proofs.Common.{◌≡◌, ℕ, ◌<◌, List, ap, subst, ◌∙◌, arith, length}
 use Rattle.std.specs.Prelude.{slice_get, Some}
-use Rattle.std.specs.Result.{OnErr, IfOk}
+use Rattle.std.specs.Result.{IfOk}
 use Rattle.std.proofs.lemmas.List.{length-map}
 use Rattle.std.proofs.lemmas.Result.{IfOk-weaker, on_err_weaker, err_from_is_err_and}
 use Rattle.hal_base.specs.declared.outcome.PageFault.TheVariants.{NoRoom}
@@ -11,7 +11,7 @@ use Rattle.segment_blocks.specs.Tiling.{cell_length}
 use Rattle.free_space.specs.declared.space.Space.{Space}
 use Rattle.free_space.specs.Space.{space_of}
 use Rattle.free_space.specs.Layout.{HasLayout, Relaid}
-use Rattle.free_space.specs.Placing.{length_of, grown, NoHoleFits, PlacesIn, Places, IsFirstWith}
+use Rattle.free_space.specs.Placing.{grown, NoHoleFits, PlacesIn, Places, IsFirstWith}
 use Rattle.free_space.specs.Store.{Grows}
 use Rattle.free_space.proofs.Pages.{handed_on}
 use Rattle.free_space.proofs.PlaceSteps.{knows_this, none_fits, grows_none, grows_same, relaid_none, relaid_kept, on_any_err, placed_here, placed_behind}

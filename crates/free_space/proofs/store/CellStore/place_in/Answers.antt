@@ -1,4 +1,4 @@
-use Rattle.std.proofs.Common.{ℕ, ◌+◌, List, take, drop, ap, ◌∙◌, sym}
+use Rattle.std.proofs.Common.{◌+◌, take, drop, ap, ◌∙◌}
 use Rattle.std.proofs.lemmas.Result.{IfOk-weaker}
 use Rattle.segment_blocks.specs.Tiling.{cell_length}
 use Rattle.free_space.specs.Layout.{Relaid}

@@ -1,4 +1,4 @@
-// New cells: into the lowest hole that fits, or past the last cell; and cells that are given back.
+// A cell that is given back.
 ghost use Rattle.std.specs.Prelude.{◌≡◌, ℕ, ◌+◌, ◌-◌, ◌<◌, ◌≤◌, ◌≢◌, ◌∷◌, ◌++◌, [], false, List as ListOf, length, take, drop, slice_get, Some, IfOk, OnOk, OnErr, IsErrOf, IsTrue};
 ghost use Rattle.hal_base.specs.Fault.{HasCauseFor};
 ghost use Rattle.hal_base.specs.Pages.{SameSets, SameOthers};
