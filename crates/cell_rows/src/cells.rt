@@ -27,7 +27,7 @@ fn place(alloc: Global, shelf: &mut QuietShelf, shape: Shape, byte: u8) -> Resul
     let Ok(mut store) = CellStore::open(alloc, shelf, SET, &[shape]) else {
         return Err(PageFault::Memory);
     };
-    let Ok(cell) = cell_of(alloc, shape, byte) else {
+    let Ok(cell) = cell_of(alloc, 1, shape, byte) else {
         return Err(PageFault::Memory);
     };
     store.place(shelf, &cell)
@@ -47,7 +47,7 @@ fn append(
     let Ok(mut store) = CellStore::open(alloc, shelf, SET, &[shape]) else {
         return Err(PageFault::Memory);
     };
-    let Ok(cell) = cell_of(alloc, shape, byte) else {
+    let Ok(cell) = cell_of(alloc, 1, shape, byte) else {
         return Err(PageFault::Memory);
     };
     store.append(shelf, &cell, fbff, fspf)
@@ -103,6 +103,24 @@ fn the_lowest_hole_is_taken(rt: HostRuntime) {
     assert_eq!(rt; give_back(rt.alloc(), &mut shelf, ROOT, 16), Ok(()));
     assert_eq!(rt; place(rt.alloc(), &mut shelf, ROOT, 3), Ok(16));
     assert_eq!(rt; append(rt.alloc(), &mut shelf, ROOT, 4, 0, 0), Ok(80));
+}
+
+/// Places a cell of a second type beside roots.
+fn place_second(
+    alloc: Global,
+    shelf: &mut QuietShelf,
+    shape: Shape,
+    byte: u8,
+) -> Result<u32, PageFault>
+    requires { shape.bytes ≤ 2016 }
+{
+    let Ok(mut store) = CellStore::open(alloc, shelf, SET, &[ROOT, shape]) else {
+        return Err(PageFault::Memory);
+    };
+    let Ok(cell) = cell_of(alloc, 2, shape, byte) else {
+        return Err(PageFault::Memory);
+    };
+    store.place(shelf, &cell)
 }
 
 /// The address of the last of so many roots that are appended.
@@ -163,6 +181,17 @@ fn a_hole_of_a_cells_size_is_filled_and_joined_again(rt: HostRuntime) {
         assert_eq!(rt; shelf.fetch_page(SET, 0, &mut page), Ok(()));
     }
     assert_eq!(rt; &page[16..24], [0, 0, 0, 96, 0, 0, 0, 0].as_slice());
+}
+
+#[test]
+fn a_hole_takes_a_cell_4_bytes_shorter_and_none_4_bytes_longer(rt: HostRuntime) {
+    for (bytes, wanted) in [(8, 48), (9, 48), (12, 48), (13, 144)] {
+        let mut shelf = QuietShelf::new(rt.alloc(), 1);
+        assert_eq!(rt; placed_among_roots(rt.alloc(), &mut shelf, &[48]), Ok(112));
+        let shape = Shape { children: 1, bytes };
+        let at = place_second(rt.alloc(), &mut shelf, shape, 9);
+        assert_eq!(rt; at, Ok(wanted), "{bytes}");
+    }
 }
 
 #[test]

@@ -1,7 +1,7 @@
 //! Tests of the store of cells over a shelf in memory.
 #![tactic(auto)]
 
-ghost use Rattle.std.specs.Prelude.{◌≡◌, ◌∷◌, [], List as ListOf, IfOk, length};
+ghost use Rattle.std.specs.Prelude.{◌≡◌, ◌-◌, ◌<◌, List as ListOf, Some, IfOk, length, slice_get};
 ghost use Rattle.hal_base.specs.declared.place.Shape.{Shape as ShapeOf};
 ghost use Rattle.free_space.specs.Store.{IsTyped};
 
@@ -9,16 +9,17 @@ use hal_base::{Bytes, Ilk, List, Memory, Shape};
 use segment_blocks::Cell;
 use std::alloc::Global;
 
-/// A cell of the only type, which has this shape.
-pub fn cell_of(alloc: Global, shape: Shape, byte: u8) -> Result<Cell, Memory>
-    ensures typed { IfOk result (λ cell. (shapes : ListOf ShapeOf) → shapes ≡ shape ∷ [] → IsTyped shapes cell) }
+/// A cell of the type of a code, which has this shape.
+pub fn cell_of(alloc: Global, code: u8, shape: Shape, byte: u8) -> Result<Cell, Memory>
+    requires { 0 < code }
+    ensures typed { IfOk result (λ cell. (shapes : ListOf ShapeOf) → slice_get shapes (code - 1) ≡ Some shape → IsTyped shapes cell) }
     ensures content { IfOk result (λ cell. length cell.content ≡ shape.bytes) }
 {
     let pointers = [0; 255];
     let content = vec![in alloc; byte; usize::from(shape.bytes)]?;
     Ok(Cell {
         copied: false,
-        code: 1,
+        code,
         name: Ilk {
             addr: 16,
             part: 1,

@@ -1,4 +1,6 @@
+use Rattle.std.proofs.Common.{List, slice_get, ap}
+use Rattle.hal_base.specs.declared.place.Shape.{Shape}
 use Rattle.cell_rows.proofs.cells.place.Goals as goal
 
 pub place-requires-clause-typed : goal.place-requires-clause-typed
-place-requires-clause-typed c = c.in-Ok-cell_of.ensures.typed c.in-Ok.store.shapes c.in-Ok.ensures.shapes
+place-requires-clause-typed c = c.in-Ok-cell_of.ensures.typed c.in-Ok.store.shapes (ap (λ (shapes : List Shape). slice_get shapes 0) c.in-Ok.ensures.shapes)
