@@ -75,4 +75,6 @@ mod first_path;
 #[cfg(test)]
 mod journal;
 #[cfg(test)]
+mod keyed_sets;
+#[cfg(test)]
 mod schema;
