@@ -1,0 +1,18 @@
+//! Tests of sets of rows by key over a shelf in memory.
+#![tactic(auto)]
+
+ghost use Rattle.std.specs.Prelude.{◌≡◌, ◌+◌, ◌/◌, ◌%◌, ◌∷◌, []};
+
+/// The key of a number: its three digits.
+pub fn key_of(number: u8) -> [u8; 3]
+    ensures { result ≡ (48 + number / 100) ∷ (48 + number / 10 % 10) ∷ (48 + number % 10) ∷ [] }
+{
+    [
+        b'0' + number / 100,
+        b'0' + number / 10 % 10,
+        b'0' + number % 10,
+    ]
+}
+
+#[cfg(test)]
+mod sets;
