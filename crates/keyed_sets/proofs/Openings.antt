@@ -36,7 +36,7 @@ pub record IsRange (first last : List ℕ) (rows : List Row) : Type 0 where
   pub starts : StartsWith first rows
   pub ends : EndsWith last rows
 
-nothing_or : (rows : List Row) → (rows ≡ []) ⊎ ((row : Row) × Contains rows row)
+pub nothing_or : (rows : List Row) → (rows ≡ []) ⊎ ((row : Row) × Contains rows row)
 nothing_or [] = inl refl
 nothing_or (row ∷ rows) = inr (row, at_front row rows)
 

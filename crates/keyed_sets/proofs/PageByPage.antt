@@ -21,7 +21,7 @@ one_more pages n page there = take_more pages n page (slice_get_within pages n p
 tables_more : (shape : RowShape) (pages : List (List ℕ)) (page : List ℕ) → tables shape (pages ++ page ∷ []) ≡ tables shape pages ++ rows_in shape page ∷ []
 tables_more shape pages page = map-append (rows_in shape) pages (page ∷ [])
 
-rule_more : (shape : RowShape) (pages : List (List ℕ)) (page : List ℕ) → KeepsRule shape pages → IsRowPage shape page → AreApart (tables shape pages ++ rows_in shape page ∷ []) → KeepsRule shape (pages ++ page ∷ [])
+pub rule_more : (shape : RowShape) (pages : List (List ℕ)) (page : List ℕ) → KeepsRule shape pages → IsRowPage shape page → AreApart (tables shape pages ++ rows_in shape page ∷ []) → KeepsRule shape (pages ++ page ∷ [])
 rule_more shape pages page rule lawful apart = record {
   each = All-push (IsRowPage shape) pages page rule.each lawful;
   apart = λ m n lt within. subst (λ (t : List (List Row)). Apart (page_rows t m) (page_rows t n)) (sym (tables_more shape pages page)) (apart.apart m n (λ is. absurd (omega (arith, is, lt))));

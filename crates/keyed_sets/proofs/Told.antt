@@ -59,3 +59,10 @@ then_written told standing left goes set a b c on first second = record {
 pub any_err : {T E P : Type 0} (r : Result T E) → P → OnErr r P
 any_err (Ok t) holds = tt
 any_err (Err e) holds = holds
+
+pub all_ok : {T E A B C D : Type 0} (r : Result T E) → OnOk r A → OnOk r B → OnOk r C → (A → B → C → D) → OnOk r D
+all_ok (Ok t) a b c then = then a b c
+all_ok (Err e) a b c then = tt
+
+pub never_err : {T E P : Type 0} (r : Result T E) (e : E) → (r ≡ Err e → ⊥) → r ≡ Err e → P
+never_err r e never is = absurd (never is)

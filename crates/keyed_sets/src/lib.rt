@@ -19,8 +19,10 @@ mod neighbours;
 mod open;
 mod opening;
 mod page;
+mod put;
 mod remove;
 mod row;
+mod second;
 mod set;
 mod stage;
 
