@@ -1,30 +1,26 @@
 -- A page without rows that gets rows, and what the set has then.
-use Rattle.std.proofs.Common.{◌≡◌, ◌⊎◌, ℕ, zero, suc, ◌+◌, ◌-◌, ◌/◌, ◌<◌, ◌≤◌, Bool, true, false, cond, not, List, [], ◌∷◌, ◌++◌, length, get_or, take, drop, set, Option, Some, None, inl, inr, refl, sym, ap, subst, ◌∙◌, arith}
-use Rattle.std.specs.Prelude.{Contains, slice_get, insert, All}
-use Rattle.std.proofs.lemmas.Bool.{both_ways, cases_lt, cases_eq, cases_Bool, not-true, not-false}
+use Rattle.std.proofs.Common.{◌≡◌, ◌⊎◌, ℕ, ◌-◌, ◌/◌, ◌≤◌, Bool, true, false, cond, List, [], ◌∷◌, ◌++◌, length, take, drop, set, Some, inl, inr, refl, sym, ap, subst, ◌∙◌, arith}
+use Rattle.std.specs.Prelude.{Contains, slice_get, insert}
+use Rattle.std.proofs.lemmas.Bool.{cases_Bool, not-true, not-false}
 use Rattle.std.proofs.lemmas.Option.{slice_get_within, get_or_from_slice_get}
-use Rattle.std.proofs.lemmas.List.{length-map, drop_all, take-append-drop}
-use Rattle.std.proofs.lemmas.List.Elements.{All-set, Contains-append_cases}
+use Rattle.std.proofs.lemmas.List.{length-map, take-append-drop}
+use Rattle.std.proofs.lemmas.List.Elements.{All-set}
 use Rattle.keyed_sets.specs.declared.row.RowShape.{RowShape}
 use Rattle.keyed_sets.specs.declared.index.First.{First}
 use Rattle.keyed_sets.specs.Changes.{placed}
 use Rattle.keyed_sets.specs.Layout.{Row, rows_in, is_below, PutsRows}
-use Rattle.keyed_sets.specs.Map.{KeysRise, rows_of, with_row}
+use Rattle.keyed_sets.specs.Map.{with_row}
 use Rattle.keyed_sets.specs.Places.{lower_half, upper_half, begins_upto, kept_rows, moved_rows}
-use Rattle.keyed_sets.specs.Rule.{IsRowPage, KeepsRule, Apart, AllBelow, tables, page_rows}
+use Rattle.keyed_sets.specs.Rule.{IsRowPage, Apart, AllBelow, tables, page_rows}
 use Rattle.keyed_sets.specs.Opened.{StartsWith, IsIndex, Stands, empty_numbers}
 use Rattle.keyed_sets.specs.Opening.{AreApart}
-use Rattle.keyed_sets.proofs.Keys.{below_itself, below_upto, upto_below, below_trans}
+use Rattle.keyed_sets.proofs.Keys.{below_upto, below_trans}
 use Rattle.keyed_sets.proofs.Maps.{Rows, with_row_has, with_row_new, with_row_old, with_row_rises}
-use Rattle.keyed_sets.proofs.Members.{nothing_there, at_front, front_or, the_only, rise_one, rise-left, rise-right, rise-between}
+use Rattle.keyed_sets.proofs.Members.{nothing_there, at_front, front_or, rise_one, rise-left, rise-right, rise-between}
 use Rattle.keyed_sets.proofs.Edited.{put_or, put_new, put_old, put_rises, in_parts, from_take, from_drop}
-use Rattle.keyed_sets.proofs.Tables.{first_row, from_first}
-use Rattle.keyed_sets.proofs.Openings.{before_by_first}
-use Rattle.keyed_sets.proofs.Sets.{IsIn, lawful, one_place}
+use Rattle.keyed_sets.proofs.Sets.{lawful}
 use Rattle.keyed_sets.proofs.Numbers.{FirstNumber, first_number}
-use Rattle.keyed_sets.proofs.Placing.{placed_here, placed_other, placed_or, apart_placed, apart_fewer, index_placed, row_page_put, rule_from, set_placed, rows_with, front_below, back_above, in_front, in_back}
-use Rattle.keyed_sets.proofs.Removes.{Written}
-use Rattle.keyed_sets.proofs.Putting.{IsNear, Beside, Under, Over, beside, beside_page, with_row_clear}
+use Rattle.keyed_sets.proofs.Placing.{apart_placed, index_placed, row_page_put, rule_from, set_placed}
 
 -- a page without rows that is to get some
 pub record Added (shape : RowShape) (pages : List (List ℕ)) (firsts : List First) (n : ℕ) (rest : List ℕ) (page page2 : List ℕ) (rows : List Row) : Type 0 where
@@ -68,14 +64,14 @@ added_stands shape pages firsts n rest page page2 rows at key a starts low high 
     let none = nothing_at shape pages firsts n rest a.stands in
     record {
       rule = rule_from shape (set pages n page2) (All-set (IsRowPage shape) pages n page2 (row_page_put shape page page2 rows was a.puts (rise_one rows a.rise)) a.stands.rule.each)
-      (subst AreApart (sym grown) (added_apart shape pages firsts n rest page page2 rows a));
+          (subst AreApart (sym grown) (added_apart shape pages firsts n rest page page2 rows a));
       index = subst (λ (t : List (List Row)). IsIndex t (insert firsts at new)) (sym grown) (index_placed n rows table firsts (insert firsts at new) le a.stands.index
-        (put_rises (λ (f : First). f.key) firsts at new a.stands.index.rise low high)
-        (λ f c. elim (put_or firsts at new f c) [
-          | inl is ↦ inl (ap (λ (g : First). g.page) is, subst (λ (g : First). StartsWith g.key rows) (sym is) starts)
-          | inr old ↦ inr (λ is. nothing_starts f.key (page_rows table f.page) (ap (page_rows table) is ∙ none) (a.stands.index.starts f old), old)
-        ])
-        (λ f c other. put_old firsts at new f c) (λ x c. (new, put_new firsts at new, refl)));
+          (put_rises (λ (f : First). f.key) firsts at new a.stands.index.rise low high)
+          (λ f c. elim (put_or firsts at new f c) [
+            | inl is ↦ inl (ap (λ (g : First). g.page) is, subst (λ (g : First). StartsWith g.key rows) (sym is) starts)
+            | inr old ↦ inr (λ is. nothing_starts f.key (page_rows table f.page) (ap (page_rows table) is ∙ none) (a.stands.index.starts f old), old)
+          ])
+          (λ f c other. put_old firsts at new f c) (λ x c. (new, put_new firsts at new, refl)));
       empty_pages = sym (numbered rows starts first same) ∙ ap (empty_numbers 0) (sym grown);
     }
   where
@@ -110,7 +106,7 @@ above_begun : (key : List ℕ) (rows : List Row) → Rows rows → begins_upto k
 above_begun key [] rise is y c = absurd (nothing_there y c)
 above_begun key (row ∷ rows) rise is y c =
     let over : is_below key (row.0) ≡ true = not-false (is_below key (row.0)) is in
-    elim (front_or row rows y c) [ | inl same ↦ ap (λ (r : Row). is_below key (r.0)) same ∙ over | inr d ↦ below_trans key (row.0) (y.0) over (rise.0 y d) ]
+    elim (front_or row rows y c) [ inl same ↦ ap (λ (r : Row). is_below key (r.0)) same ∙ over | inr d ↦ below_trans key (row.0) (y.0) over (rise.0 y d) ]
 
 -- what is known of the two parts
 pub record AreParts (row : Row) (rows kept moved : List Row) : Type 0 where
@@ -123,7 +119,7 @@ pub record AreParts (row : Row) (rows kept moved : List Row) : Type 0 where
   pub old : (x : Row) → Contains rows x → (x.0 ≡ row.0 → ⊥) → Contains kept x ⊎ Contains moved x
 
 with_or : (row : Row) (half rows : List Row) → Rows half → ((x : Row) → Contains half x → Contains rows x) → (x : Row) → Contains (with_row row half) x → (x ≡ row) ⊎ Contains rows x
-with_or row half rows rise some x c = elim (with_row_has row half rise x c) [ | inl is ↦ inl is | inr old ↦ inr (some x old.0) ]
+with_or row half rows rise some x c = elim (with_row_has row half rise x c) [ inl is ↦ inl is | inr old ↦ inr (some x old.0) ]
 
 parts_up : (row : Row) (rows : List Row) → Rows rows → begins_upto (row.0) (upper_half rows) ≡ true → AreParts row rows (lower_half rows) (with_row row (upper_half rows))
 parts_up row rows rise up = record {
@@ -136,7 +132,7 @@ parts_up row rows rise up = record {
   kept_has = λ x c. inr (in_lower rows x c);
   moved_has = with_or row (upper_half rows) rows (upper_rises rows rise) (in_upper rows);
   new = inr (with_row_new row (upper_half rows));
-  old = λ x c other. elim (in_parts rows (length rows - length rows / 2) x c) [ | inl low ↦ inl low | inr high ↦ inr (with_row_old row (upper_half rows) x high other) ];
+  old = λ x c other. elim (in_parts rows (length rows - length rows / 2) x c) [ inl low ↦ inl low | inr high ↦ inr (with_row_old row (upper_half rows) x high other) ];
 }
 
 parts_down : (row : Row) (rows : List Row) → Rows rows → begins_upto (row.0) (upper_half rows) ≡ false → AreParts row rows (with_row row (lower_half rows)) (upper_half rows)
@@ -150,7 +146,7 @@ parts_down row rows rise down = record {
   kept_has = with_or row (lower_half rows) rows (lower_rises rows rise) (in_lower rows);
   moved_has = λ x c. inr (in_upper rows x c);
   new = inl (with_row_new row (lower_half rows));
-  old = λ x c other. elim (in_parts rows (length rows - length rows / 2) x c) [ | inl low ↦ inl (with_row_old row (lower_half rows) x low other) | inr high ↦ inr high ];
+  old = λ x c other. elim (in_parts rows (length rows - length rows / 2) x c) [ inl low ↦ inl (with_row_old row (lower_half rows) x low other) | inr high ↦ inr high ];
 }
 
 pub parts_of : (row : Row) (rows : List Row) → Rows rows → AreParts row rows (kept_rows row rows) (moved_rows row rows)

@@ -1,10 +1,10 @@
 -- A row that begins the second page alone.
-use Rattle.std.proofs.Common.{◌≡◌, ◌⊎◌, ℕ, zero, suc, ◌+◌, ◌-◌, ◌/◌, ◌<◌, ◌≤◌, true, false, List, [], ◌∷◌, ◌++◌, length, get_or, take, drop, set, Option, Some, None, inl, inr, refl, sym, ap, subst, ◌∙◌, arith}
+use Rattle.std.proofs.Common.{◌≡◌, ℕ, zero, ◌+◌, ◌<◌, ◌≤◌, List, [], ◌∷◌, ◌++◌, length, take, drop, set, Option, Some, None, inl, inr, refl, sym, ap, subst, ◌∙◌, arith}
 use Rattle.std.specs.Prelude.{Contains, IfSome, IsSomeAnd, slice_get, insert, All}
 use Rattle.std.specs.List.{remove}
 use Rattle.std.specs.Option.{option_map}
 use Rattle.std.proofs.lemmas.Bool.{cases_lt, cases_eq}
-use Rattle.std.proofs.lemmas.Option.{same_Some, none-some, slice_get_within, get_or_from_slice_get}
+use Rattle.std.proofs.lemmas.Option.{same_Some}
 use Rattle.std.proofs.lemmas.List.{take_all, drop_all, take_at, length_push}
 use Rattle.std.proofs.Math.Nat.{le-div_iff_mul-le}
 use Rattle.std.proofs.lemmas.List.Elements.{All-append, All-cons, All-take, All-drop, All-tail}
@@ -13,18 +13,16 @@ use Rattle.keyed_sets.specs.declared.index.First.{First}
 use Rattle.keyed_sets.specs.Changes.{placed, HasSpare}
 use Rattle.keyed_sets.specs.Layout.{Row, rows_in, rows_from, count_of, end_of, is_below, row_length, PutsRows}
 use Rattle.hal_base.specs.Pages.{SameHead}
-use Rattle.keyed_sets.specs.Map.{KeysRise, rows_of, with_row}
-use Rattle.keyed_sets.specs.Places.{IsHome, HasNoRows, Takes, IsAboveAll, first_or, second_page, IsPut, Fits, Begins, Splits, Puts, IsBegun}
-use Rattle.keyed_sets.specs.Rule.{KeepsRule, Apart, capacity, tables, page_rows}
-use Rattle.keyed_sets.specs.Opened.{StartsWith, IsIndex, Stands, empty_numbers}
+use Rattle.keyed_sets.specs.Map.{rows_of, with_row}
+use Rattle.keyed_sets.specs.Places.{HasNoRows, first_or, second_page, IsPut, Fits, Begins, Puts, IsBegun}
+use Rattle.keyed_sets.specs.Rule.{KeepsRule, capacity, tables, page_rows}
+use Rattle.keyed_sets.specs.Opened.{StartsWith, Stands, empty_numbers}
 use Rattle.keyed_sets.specs.Opening.{AreApart}
 use Rattle.keyed_sets.proofs.Keys.{below_itself}
-use Rattle.keyed_sets.proofs.Maps.{Rows}
 use Rattle.keyed_sets.proofs.Members.{nothing_there, at_front, the_only}
 use Rattle.keyed_sets.proofs.Tables.{page_past, page_old, page_new, first_row}
 use Rattle.keyed_sets.proofs.Openings.{numbers_last}
 use Rattle.keyed_sets.proofs.Sets.{IsIn, lawful}
-use Rattle.keyed_sets.proofs.Lookups.{page_is}
 use Rattle.keyed_sets.proofs.Placing.{placed_here, placed_other, placed_or, rows_with}
 use Rattle.keyed_sets.proofs.Adding.{Added, added_table, added_within, added_apart, added_stands, nothing_at}
 
@@ -48,9 +46,9 @@ spare_of before after n rest (inr grown) numbers =
     record {
       second = is ∙ sym (ap (first_or (length before)) grown.1);
       same = λ rows. ap (placed n rows) grown.0 ∙ ap (λ (k : ℕ). placed k rows (before ++ [] ∷ [])) is
-        ∙ ap (λ (l : List (List Row)). l ++ rows ∷ drop (length before + 1) (before ++ [] ∷ [])) (take_at before ([] ∷ []) (length before) refl ∙ sym (take_all (length before) before (omega arith)))
-        ∙ ap (λ (l : List (List Row)). take (length before) before ++ rows ∷ l) (drop_all (length before + 1) (before ++ [] ∷ []) (omega (arith, length_push before [])) ∙ sym (drop_all (length before + 1) before (omega arith)))
-        ∙ ap (λ (k : ℕ). placed k rows before) (sym is);
+          ∙ ap (λ (l : List (List Row)). l ++ rows ∷ drop (length before + 1) (before ++ [] ∷ [])) (take_at before ([] ∷ []) (length before) refl ∙ sym (take_all (length before) before (omega arith)))
+          ∙ ap (λ (l : List (List Row)). take (length before) before ++ rows ∷ l) (drop_all (length before + 1) (before ++ [] ∷ []) (omega (arith, length_push before [])) ∙ sym (drop_all (length before + 1) before (omega arith)))
+          ∙ ap (λ (k : ℕ). placed k rows before) (sym is);
       rows = λ m. ap (λ (t : List (List Row)). page_rows t m) grown.0 ∙ elim (cases_lt m (length before)) [
         | inl lt ↦ page_old before [] m lt
         | inr le ↦ elim (cases_eq m (length before)) [
@@ -130,7 +128,7 @@ begun_puts shape pages pages1 told2 firsts n rest page page2 row some b staged =
     let grown = added_table shape pages1 firsts n rest page page2 (row ∷ []) (begun_added shape pages pages1 firsts n rest page page2 row b) in
     record {
       pages = subst (λ o. IsSomeAnd o (λ after. IsPut (capacity shape) row (tables shape pages) (tables shape after))) (sym staged)
-      (begun_put (capacity shape) row (tables shape pages) (tables shape (set pages1 n page2)) some b.begun (grown ∙ spare.same (row ∷ []) ∙ ap (λ (k : ℕ). placed k (row ∷ []) (tables shape pages)) spare.second));
+          (begun_put (capacity shape) row (tables shape pages) (tables shape (set pages1 n page2)) some b.begun (grown ∙ spare.same (row ∷ []) ∙ ap (λ (k : ℕ). placed k (row ∷ []) (tables shape pages)) spare.second));
       rows = subst (λ o. IsSomeAnd o (λ after. rows_of shape after ≡ with_row row (rows_of shape pages))) (sym staged) (begun_rows shape pages pages1 firsts n rest page page2 row b);
     }
 
@@ -143,9 +141,9 @@ begun_stands shape pages pages1 firsts n rest page page2 row key b starts =
     let spare = spare_of (tables shape pages) (tables shape pages1) n rest b.spare (sym b.stands.empty_pages) in
     added_stands shape pages1 firsts n rest page page2 (row ∷ []) (length firsts) key (begun_added shape pages pages1 firsts n rest page page2 row b) starts
     (λ f c.
-      let there : Contains firsts f = subst (λ (l : List First). Contains l f) (take_all (length firsts) firsts (omega arith)) c in
-      let front = first_row f.key (page_rows (tables shape pages1) f.page) (b.stands.index.starts f there) in
-      ap (λ (k : List ℕ). is_below k key) (sym front.2) ∙ ap (is_below (front.0.0)) (sym starts) ∙ b.begun.above f.page front.0 (subst (λ (l : List Row). Contains l front.0) (spare.rows f.page) front.1))
+    let there : Contains firsts f = subst (λ (l : List First). Contains l f) (take_all (length firsts) firsts (omega arith)) c in
+    let front = first_row f.key (page_rows (tables shape pages1) f.page) (b.stands.index.starts f there) in
+    ap (λ (k : List ℕ). is_below k key) (sym front.2) ∙ ap (is_below (front.0.0)) (sym starts) ∙ b.begun.above f.page front.0 (subst (λ (l : List Row). Contains l front.0) (spare.rows f.page) front.1))
     (λ f c. absurd (nothing_there f (subst (λ (l : List First). Contains l f) (drop_all (length firsts) firsts (omega arith)) c)))
 
 first_room : (shape : RowShape) (count : ℕ) → count ≡ 0 → row_length shape ≤ 2040 → end_of shape (count + 1) ≤ 4096

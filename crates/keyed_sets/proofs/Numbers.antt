@@ -1,8 +1,8 @@
 -- A number put in its place among others, and the numbers of the pages without rows.
-use Rattle.std.proofs.Common.{◌≡◌, ◌⊎◌, ℕ, zero, suc, ◌+◌, ◌-◌, ◌<◌, ◌≤◌, Bool, true, false, cond, List, [], ◌∷◌, ◌++◌, length, get_or, take, drop, set, ltb, inl, inr, refl, sym, ap, subst, ◌∙◌, append_assoc, arith}
+use Rattle.std.proofs.Common.{◌≡◌, ℕ, zero, suc, ◌+◌, ◌<◌, ◌≤◌, Bool, cond, List, [], ◌∷◌, ◌++◌, length, get_or, take, drop, inl, inr, refl, sym, ap, ◌∙◌, append_assoc, arith}
 use Rattle.std.specs.Prelude.{Contains, insert}
 use Rattle.std.proofs.lemmas.Bool.{lt-ltb, le-ltb}
-use Rattle.std.proofs.lemmas.List.{drop_more, take_more, drop_all, take_all, append-nil}
+use Rattle.std.proofs.lemmas.List.{drop_more, take_more, drop_all}
 use Rattle.keyed_sets.specs.Layout.{Row}
 use Rattle.keyed_sets.specs.Opened.{with_number, empty_numbers}
 use Rattle.keyed_sets.proofs.Members.{front_or}
@@ -102,6 +102,6 @@ first_number from n rest ((row ∷ others) ∷ table) is =
       within = omega (arith, more.within);
       nothing = more.nothing;
       later = λ first rows.
-        let one : suc more.place + 1 ≡ suc (more.place + 1) = omega arith in
-        ap (λ (k : ℕ). empty_numbers from (take (suc more.place) ((row ∷ others) ∷ table) ++ (first ∷ rows) ∷ drop k ((row ∷ others) ∷ table))) one ∙ more.later first rows;
+          let one : suc more.place + 1 ≡ suc (more.place + 1) = omega arith in
+          ap (λ (k : ℕ). empty_numbers from (take (suc more.place) ((row ∷ others) ∷ table) ++ (first ∷ rows) ∷ drop k ((row ∷ others) ∷ table))) one ∙ more.later first rows;
     }

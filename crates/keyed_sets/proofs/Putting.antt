@@ -1,27 +1,26 @@
 -- A row put into its page, and the page where it goes.
-use Rattle.std.proofs.Common.{◌≡◌, ◌⊎◌, ℕ, zero, suc, ◌+◌, ◌-◌, ◌<◌, ◌≤◌, Bool, true, false, cond, not, List, [], ◌∷◌, ◌++◌, length, get_or, take, drop, set, Option, Some, None, inl, inr, refl, sym, ap, subst, ◌∙◌, arith}
-use Rattle.std.specs.Prelude.{Contains, ◌||◌, slice_get, insert, is_some}
+use Rattle.std.proofs.Common.{◌≡◌, ◌⊎◌, ℕ, zero, suc, ◌+◌, ◌-◌, ◌<◌, ◌≤◌, Bool, true, false, cond, List, [], ◌∷◌, length, get_or, take, drop, Some, inl, inr, refl, sym, ap, subst, ◌∙◌, arith}
+use Rattle.std.specs.Prelude.{Contains, ◌||◌, slice_get, insert}
 use Rattle.std.specs.List.{remove}
 use Rattle.std.specs.Option.{option_map}
-use Rattle.std.proofs.lemmas.Bool.{both_ways, cases_lt, cases_eq, cases_order, or_left, or_right}
+use Rattle.std.proofs.lemmas.Bool.{cases_order, or_left, or_right}
 use Rattle.std.proofs.lemmas.List.{get_or_default, length-append, length-take-le, length-drop}
 use Rattle.std.proofs.lemmas.List.Edits.{length-remove}
 use Rattle.keyed_sets.proofs.Rows.{length-rows_in}
 use Rattle.keyed_sets.proofs.Lookups.{nowhere, key_at_is, missing_at}
 use Rattle.std.proofs.lemmas.List.Elements.{Contains-get_or}
-use Rattle.hal_base.specs.Pages.{SameHead}
 use Rattle.keyed_sets.specs.declared.row.RowShape.{RowShape}
 use Rattle.keyed_sets.specs.declared.index.First.{First}
 use Rattle.keyed_sets.specs.Layout.{Row, rows_in, count_of, is_below, place_of, PutsRows}
-use Rattle.keyed_sets.specs.Map.{KeysRise, with_row}
+use Rattle.keyed_sets.specs.Map.{with_row}
 use Rattle.keyed_sets.specs.Places.{nearer, IsHome}
-use Rattle.keyed_sets.specs.Rule.{Apart, AllBelow, tables, page_rows}
-use Rattle.keyed_sets.specs.Opened.{StartsWith, IsIndex, Stands}
+use Rattle.keyed_sets.specs.Rule.{Apart, AllBelow, page_rows}
+use Rattle.keyed_sets.specs.Opened.{StartsWith, IsIndex}
 use Rattle.keyed_sets.specs.Opening.{AreApart}
-use Rattle.keyed_sets.proofs.Keys.{below_both, below_itself, below_trans, below_false, below_upto, upto_below, three_ways}
-use Rattle.keyed_sets.proofs.Maps.{Rows, row_behind, row_ahead, row_over, with_row_has, with_row_rises}
-use Rattle.keyed_sets.proofs.Members.{nothing_there, at_front, further, rise_at}
-use Rattle.keyed_sets.proofs.Tables.{first_row, from_first, apart_none}
+use Rattle.keyed_sets.proofs.Keys.{below_both, below_false, below_upto, three_ways}
+use Rattle.keyed_sets.proofs.Maps.{Rows, row_behind, row_ahead, row_over, with_row_has}
+use Rattle.keyed_sets.proofs.Members.{at_front, further, rise_at}
+use Rattle.keyed_sets.proofs.Tables.{first_row, apart_none}
 use Rattle.keyed_sets.proofs.Openings.{IsSplit, nothing_or, before_by_first}
 use Rattle.keyed_sets.proofs.Sets.{above_split}
 
@@ -77,14 +76,14 @@ beside table firsts key at home p apart index near f c other =
       | inl same ↦ absurd (other (ap (λ (g : First). g.page) (sym c.2 ∙ ap (λ (i : ℕ). get_or firsts i f) same ∙ get_or_default firsts home f p near.within ∙ near.is)))
       | inr (inl lt) ↦
           let order : is_below f.key p.key ≡ true = subst (λ (g : First). is_below g.key p.key ≡ true) c.2 (subst (λ (g : First). is_below (get_or firsts c.0 f).key g.key ≡ true) (get_or_default firsts home f p near.within ∙ near.is)
-            (rise_at (λ (g : First). g.key) firsts index.rise c.0 home f lt near.within)) in
+          (rise_at (λ (g : First). g.key) firsts index.rise c.0 home f lt near.within)) in
           let under : is_below key p.key ≡ false = subst (λ (g : First). is_below key g.key ≡ false) near.is (near.split.upto home p (omega arith) (omega (arith, lt, near.home_is))) in
           let below = before_by_first table firsts apart index f p c here order in
           let front = first_row p.key (page_rows table p.page) (index.starts p here) in
           Under p.key (index.starts p here) under below (λ x d. below_upto (x.0) p.key key (ap (is_below (x.0)) (sym front.2) ∙ below x front.0 d front.1) under)
       | inr (inr gt) ↦
           let order : is_below p.key f.key ≡ true = subst (λ (g : First). is_below p.key g.key ≡ true) c.2 (subst (λ (g : First). is_below g.key (get_or firsts c.0 f).key ≡ true) (get_or_default firsts home f p near.within ∙ near.is)
-            (rise_at (λ (g : First). g.key) firsts index.rise home c.0 f gt c.1)) in
+          (rise_at (λ (g : First). g.key) firsts index.rise home c.0 f gt c.1)) in
           Over (before_by_first table firsts apart index p f here c order) (λ x d. above_split table firsts key at apart index near.split f c.0 (omega (arith, gt, near.home_is)) c.1 c.2 x d)
     ]
 

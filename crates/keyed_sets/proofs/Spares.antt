@@ -1,18 +1,17 @@
 -- A page without rows, kept at hand or added to the set.
-use Rattle.std.proofs.Common.{◌≡◌, ◌⊎◌, ℕ, zero, suc, ◌+◌, ◌-◌, ◌/◌, ◌<◌, ◌≤◌, List, [], ◌∷◌, ◌++◌, length, get_or, take, drop, replicate, set, Option, Some, None, inl, inr, refl, sym, ap, subst, ◌∙◌, append_assoc, arith}
-use Rattle.std.specs.Prelude.{Contains, IfSome, IsSomeAnd, slice_get, slice_index, insert, All}
+use Rattle.std.proofs.Common.{◌≡◌, ℕ, zero, suc, ◌+◌, ◌-◌, ◌<◌, ◌≤◌, List, [], ◌∷◌, ◌++◌, length, get_or, take, drop, replicate, set, Option, Some, None, inl, inr, refl, sym, ap, subst, ◌∙◌, append_assoc, arith}
+use Rattle.std.specs.Prelude.{IfSome, IsSomeAnd, slice_get}
 use Rattle.std.specs.Int.{w16, to_be_bytes, from_be_bytes}
 use Rattle.std.specs.Option.{option_map}
-use Rattle.std.proofs.lemmas.List.{length-append, length-map, drop_at, take_at, drop-drop, map-append, replicate-append-replicate, length-replicate}
-use Rattle.std.proofs.lemmas.List.Elements.{All-push, All-weaker}
+use Rattle.std.proofs.lemmas.List.{length-append, length-map, drop_at, drop-drop, map-append, replicate-append-replicate}
+use Rattle.std.proofs.lemmas.List.Elements.{All-weaker}
 use Rattle.hal_base.specs.declared.pages.SetId.{SetId}
 use Rattle.hal_base.specs.Pages.{empty_page, page_head, SameSets}
 use Rattle.keyed_sets.specs.declared.row.RowShape.{RowShape}
 use Rattle.keyed_sets.specs.declared.index.First.{First}
 use Rattle.keyed_sets.specs.Changes.{HasSpare, MayGrow, OnlyWritten}
-use Rattle.keyed_sets.specs.Shelves.{OnlyRead}
 use Rattle.keyed_sets.specs.Layout.{Row, rows_in, rows_from, count_of, end_of}
-use Rattle.keyed_sets.specs.Rule.{IsRowPage, KeepsRule, rising_count, Apart, tables, page_rows}
+use Rattle.keyed_sets.specs.Rule.{IsRowPage, rising_count, tables, page_rows}
 use Rattle.keyed_sets.specs.Opened.{StartsWith, IsIndex, Stands, IsOpened, empty_numbers}
 use Rattle.keyed_sets.specs.Opening.{AreApart}
 use Rattle.keyed_sets.proofs.Members.{nothing_there}
@@ -29,8 +28,15 @@ two n = refl
 
 -- an empty page is a page of rows
 head_long : (kind : ℕ) (set : SetId) (n : ℕ) → length (page_head kind set n) ≡ 8
-head_long kind set n = omega (arith, length-append (kind ∷ set.letter ∷ to_be_bytes w16 set.part ++ to_be_bytes w16 set.number) (to_be_bytes w16 n), length-append (kind ∷ set.letter ∷ to_be_bytes w16 set.part) (to_be_bytes w16 set.number),
-  length-append (kind ∷ set.letter ∷ []) (to_be_bytes w16 set.part), two set.part, two set.number, two n)
+head_long kind set n = omega (
+  arith,
+  length-append (kind ∷ set.letter ∷ to_be_bytes w16 set.part ++ to_be_bytes w16 set.number) (to_be_bytes w16 n),
+  length-append (kind ∷ set.letter ∷ to_be_bytes w16 set.part) (to_be_bytes w16 set.number),
+  length-append (kind ∷ set.letter ∷ []) (to_be_bytes w16 set.part),
+  two set.part,
+  two set.number,
+  two n,
+)
 
 behind_head : (set : SetId) (n : ℕ) → drop 8 (empty_page 2 set n) ≡ replicate 8 0 ++ replicate 4080 0
 behind_head set n =
@@ -52,7 +58,7 @@ empty_sound shape set n =
       place = subst (λ (k : ℕ). end_of shape k ≤ 4096) (sym none) (omega (arith, first));
       rising = ap (λ (k : ℕ). rising_count (rows_from shape k (drop 16 (empty_page 2 set n)))) none ∙ ap (λ (k : ℕ). length (rows_from shape k (drop 16 (empty_page 2 set n)))) (sym none);
       zeros = subst (λ (k : ℕ). drop (end_of shape k) (empty_page 2 set n) ≡ replicate (4096 - end_of shape k) 0) (sym none)
-      (subst (λ (k : ℕ). drop k (empty_page 2 set n) ≡ replicate (4096 - k) 0) (sym first) behind);
+          (subst (λ (k : ℕ). drop k (empty_page 2 set n) ≡ replicate (4096 - k) 0) (sym first) behind);
     }
 
 pub grown_table : (shape : RowShape) (pages : List (List ℕ)) (set : SetId) (n : ℕ) → tables shape (pages ++ empty_page 2 set n ∷ []) ≡ tables shape pages ++ [] ∷ []
@@ -69,10 +75,10 @@ grown_stands shape pages firsts set n stands is =
       rule = rule_more shape pages (empty_page 2 set n) stands.rule (empty_sound shape set n) (subst (λ (rows : List Row). AreApart (table ++ rows ∷ [])) (sym nothing) apart);
       index = subst (λ (t : List (List Row)). IsIndex t firsts) (sym grown) (record {
         starts = λ f c.
-          let here = stands.index.starts f c in
-          let front = first_row f.key (page_rows table f.page) here in
-          subst (StartsWith f.key) (sym (page_old table [] f.page (row_within table f.page front.0 front.1))) here;
-        all = λ m row c. elim (page_or table [] m row c) [ | inl old ↦ stands.index.all m row old.0 | inr last ↦ absurd (nothing_there row last.1) ];
+            let here = stands.index.starts f c in
+            let front = first_row f.key (page_rows table f.page) here in
+            subst (StartsWith f.key) (sym (page_old table [] f.page (row_within table f.page front.0 front.1))) here;
+        all = λ m row c. elim (page_or table [] m row c) [ inl old ↦ stands.index.all m row old.0 | inr last ↦ absurd (nothing_there row last.1) ];
         rise = stands.index.rise;
       });
       empty_pages = ap (λ (l : List ℕ). l ++ n ∷ []) stands.empty_pages ∙ ap (λ (k : ℕ). empty_numbers 0 table ++ k ∷ []) (omega (arith, is, length-map pages (rows_in shape))) ∙ sym (numbers_last 0 table) ∙ ap (empty_numbers 0) (sym grown);

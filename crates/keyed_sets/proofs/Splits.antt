@@ -1,33 +1,23 @@
 -- A full page that splits.
-use Rattle.std.proofs.Common.{◌≡◌, ◌⊎◌, ℕ, zero, suc, ◌+◌, ◌-◌, ◌/◌, ◌<◌, ◌≤◌, Bool, true, false, cond, List, [], ◌∷◌, ◌++◌, length, get_or, take, drop, set, Option, Some, None, inl, inr, refl, sym, ap, subst, ◌∙◌, arith}
-use Rattle.std.specs.Prelude.{Contains, ◌||◌, IfSome, IsSomeAnd, slice_get, insert, All, is_some}
-use Rattle.std.specs.List.{remove}
-use Rattle.std.specs.Option.{option_map}
-use Rattle.std.proofs.lemmas.Bool.{both_ways, cases_lt, cases_eq, cases_Bool, or_cases}
-use Rattle.std.proofs.lemmas.Option.{same_Some, none-some, slice_get_within, get_or_from_slice_get}
-use Rattle.std.proofs.lemmas.List.{take_more_set, drop-set-lt, length-map, length-append, length-take-le, length-drop, take-append-le, drop-append-le, length-set}
-use Rattle.std.proofs.lemmas.List.Elements.{Contains-append_cases}
+use Rattle.std.proofs.Common.{◌≡◌, ◌⊎◌, ℕ, ◌+◌, ◌<◌, Bool, true, false, cond, List, [], ◌∷◌, length, get_or, take, drop, set, Some, inl, inr, refl, sym, ap, subst, ◌∙◌}
+use Rattle.std.specs.Prelude.{Contains, ◌||◌, slice_get}
+use Rattle.std.proofs.lemmas.Bool.{both_ways, cases_Bool, or_cases}
 use Rattle.keyed_sets.specs.declared.row.RowShape.{RowShape}
 use Rattle.keyed_sets.specs.declared.index.First.{First}
-use Rattle.keyed_sets.specs.Changes.{placed, HasSpare}
 use Rattle.keyed_sets.specs.Layout.{Row, rows_in, is_below, PutsRows}
-use Rattle.keyed_sets.specs.Map.{KeysRise, lookup, rows_of, with_row}
-use Rattle.keyed_sets.specs.Places.{nearer, IsHome, HasNoRows, Takes, IsAboveAll, first_or, second_page, kept_rows, moved_rows, IsPut, Fits, Begins, Splits, IsFull}
-use Rattle.keyed_sets.specs.Rule.{KeepsRule, Apart, AllBelow, capacity, tables, page_rows}
-use Rattle.keyed_sets.specs.Opened.{StartsWith, IsIndex, Stands, empty_numbers}
+use Rattle.keyed_sets.specs.Places.{nearer, IsHome}
+use Rattle.keyed_sets.specs.Rule.{Apart, AllBelow, tables, page_rows}
+use Rattle.keyed_sets.specs.Opened.{StartsWith, Stands}
 use Rattle.keyed_sets.specs.Opening.{AreApart}
 use Rattle.keyed_sets.proofs.Keys.{below_both, below_itself, below_upto, upto_below, below_trans}
 use Rattle.keyed_sets.proofs.Maps.{Rows}
-use Rattle.keyed_sets.proofs.Members.{nothing_there, at_front, the_only}
+use Rattle.keyed_sets.proofs.Members.{nothing_there, at_front}
 use Rattle.keyed_sets.proofs.Tables.{first_row, from_first, apart_turned, apart_none}
-use Rattle.keyed_sets.proofs.Sets.{IsIn, lawful}
+use Rattle.keyed_sets.proofs.Sets.{lawful}
 use Rattle.keyed_sets.proofs.Lookups.{page_is}
-use Rattle.keyed_sets.proofs.Numbers.{numbers_same}
-use Rattle.keyed_sets.proofs.Placing.{placed_here, placed_other, placed_or, apart_placed, rows_with, front_below, back_above, in_front, in_back, other_page}
-use Rattle.keyed_sets.proofs.Removes.{Written, written_table, written_apart, written_stands, page_some}
+use Rattle.keyed_sets.proofs.Placing.{front_below, back_above, in_front, in_back, other_page}
+use Rattle.keyed_sets.proofs.Removes.{Written, written_stands, page_some}
 use Rattle.keyed_sets.proofs.Putting.{Beside, Under, Over}
-use Rattle.keyed_sets.proofs.Adding.{AreParts, parts_of, Added, added_table, added_within, added_apart, added_stands, nothing_at}
-use Rattle.keyed_sets.proofs.Begins.{Spare, spare_of}
 
 -- a key's page and the others
 over_first : (k : List ℕ) (b : Row) (others : List Row) → Rows (b ∷ others) → is_below k (b.0) ≡ true → (x : Row) → Contains (b ∷ others) x → is_below k (x.0) ≡ true
@@ -59,7 +49,7 @@ beside_home key table n apart (inl none) some m other = absurd (some (none.1 n))
 beside_home key table n apart (inr near) some m other = besides key (page_rows table n) (page_rows table m) (apart.rise n) (apart.rise m) (apart.apart m n other) (near m other)
 
 -- the parts of a page beside another page
-part_clear : (key : List ℕ) (row : Row) (p q part : List Row) → row.0 ≡ key → ((x : Row) → Contains part x → (x ≡ row) ⊎ Contains p x) → ((q ≡ []) ⊎ Beside key p q) → Apart q part
+pub part_clear : (key : List ℕ) (row : Row) (p q part : List Row) → row.0 ≡ key → ((x : Row) → Contains part x → (x ≡ row) ⊎ Contains p x) → ((q ≡ []) ⊎ Beside key p q) → Apart q part
 part_clear key row p q part is has (inl none) = apart_none q part none
 part_clear key row p q part is has (inr (Under j begins under below less)) = inl (λ x y c d. elim (has y d) [
   | inl same ↦ ap (is_below (x.0)) (ap (λ (r : Row). r.0) same ∙ is) ∙ less x c
@@ -109,7 +99,7 @@ pub record Part (shape : RowShape) (pages : List (List ℕ)) (firsts : List Firs
   pub has : (x : Row) → Contains part x → (x ≡ row) ⊎ Contains (rows_in shape page) x
   pub near : IsHome (row.0) (tables shape pages) p.page
 
-beside_part : (shape : RowShape) (pages : List (List ℕ)) (firsts : List First) (empty : List ℕ) (home : ℕ) (p : First) (page page2 : List ℕ) (row : Row) (part : List Row) → Part shape pages firsts empty home p page page2 row part
+pub beside_part : (shape : RowShape) (pages : List (List ℕ)) (firsts : List First) (empty : List ℕ) (home : ℕ) (p : First) (page page2 : List ℕ) (row : Row) (part : List Row) → Part shape pages firsts empty home p page page2 row part
     → (m : ℕ) → (m ≡ p.page → ⊥) → (page_rows (tables shape pages) m ≡ []) ⊎ Beside (row.0) (rows_in shape page) (page_rows (tables shape pages) m)
 beside_part shape pages firsts empty home p page page2 row part t m other =
     subst (λ (l : List Row). (page_rows (tables shape pages) m ≡ []) ⊎ Beside (row.0) l (page_rows (tables shape pages) m)) (page_is shape pages p.page page t.read)
@@ -118,11 +108,16 @@ beside_part shape pages firsts empty home p page page2 row part t m other =
 pub part_written : (shape : RowShape) (pages : List (List ℕ)) (firsts : List First) (empty : List ℕ) (home : ℕ) (p : First) (page page2 : List ℕ) (row : Row) (part : List Row) → Part shape pages firsts empty home p page page2 row part
     → Written shape pages firsts empty home p page page2 part
 part_written shape pages firsts empty home p page page2 row part t = record {
-  stands = t.stands; within = t.within; is = t.is; read = t.read; puts = t.puts; rise = t.rise;
+  stands = t.stands;
+  within = t.within;
+  is = t.is;
+  read = t.read;
+  puts = t.puts;
+  rise = t.rise;
   clear = λ m other. part_clear (row.0) row (rows_in shape page) (page_rows (tables shape pages) m) part refl t.has (beside_part shape pages firsts empty home p page page2 row part t m other);
 }
 
-page_starts : (shape : RowShape) (pages : List (List ℕ)) (firsts : List First) (empty : List ℕ) (home : ℕ) (p : First) (page page2 : List ℕ) (row : Row) (part : List Row) → Part shape pages firsts empty home p page page2 row part → StartsWith p.key (rows_in shape page)
+pub page_starts : (shape : RowShape) (pages : List (List ℕ)) (firsts : List First) (empty : List ℕ) (home : ℕ) (p : First) (page page2 : List ℕ) (row : Row) (part : List Row) → Part shape pages firsts empty home p page page2 row part → StartsWith p.key (rows_in shape page)
 page_starts shape pages firsts empty home p page page2 row part t = subst (StartsWith p.key) (page_is shape pages p.page page t.read) (t.stands.index.starts p (home, t.within, t.is))
 
 pub part_low : (shape : RowShape) (pages : List (List ℕ)) (firsts : List First) (empty : List ℕ) (home : ℕ) (p : First) (page page2 : List ℕ) (row : Row) (part : List Row) → Part shape pages firsts empty home p page page2 row part
@@ -148,7 +143,7 @@ part_stands shape pages firsts empty home p page page2 row part z t front =
     (part_low shape pages firsts empty home p page page2 row part t part t.has z front) (part_high shape pages firsts empty home p page page2 row part t part t.has z front)
 
 -- a row of another page has another key
-other_key : (shape : RowShape) (pages : List (List ℕ)) (firsts : List First) (empty : List ℕ) (home : ℕ) (p : First) (page page2 : List ℕ) (row : Row) (part : List Row) → Part shape pages firsts empty home p page page2 row part
+pub other_key : (shape : RowShape) (pages : List (List ℕ)) (firsts : List First) (empty : List ℕ) (home : ℕ) (p : First) (page page2 : List ℕ) (row : Row) (part : List Row) → Part shape pages firsts empty home p page page2 row part
     → (m : ℕ) → (m ≡ p.page → ⊥) → (x : Row) → Contains (page_rows (tables shape pages) m) x → x.0 ≡ row.0 → ⊥
 other_key shape pages firsts empty home p page page2 row part t m other x c is = elim (beside_part shape pages firsts empty home p page page2 row part t m other) [
   | inl none ↦ nothing_there x (subst (λ (l : List Row). Contains l x) none c)

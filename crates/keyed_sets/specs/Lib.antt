@@ -7,3 +7,4 @@ pub mod Opening
 pub mod Places
 pub mod Rule
 pub mod Shelves
+pub mod Goes

@@ -14,6 +14,7 @@ mod check;
 mod edit;
 mod fetch;
 mod index;
+mod insert;
 mod lookup;
 mod neighbours;
 mod open;
@@ -24,6 +25,7 @@ mod remove;
 mod row;
 mod second;
 mod set;
+mod split;
 mod stage;
 
 pub use check::{capacity, page_break};

@@ -11,14 +11,14 @@ ghost use Rattle.keyed_sets.specs.Opened.{IsOpened};
 ghost use Rattle.keyed_sets.specs.Places.{lower_half, upper_half, IsBegun, Puts};
 ghost use Rattle.keyed_sets.specs.Rule.{Rise, capacity, tables};
 
-use crate::{KeyedSet, RowShape};
 use crate::edit::{insert_row, move_rows, remove_row};
 use crate::lookup::holds_key;
 use crate::page::{count_in, has_room, place_in};
+use crate::{KeyedSet, RowShape};
 use hal_base::{BLOCK, PageFault, Shelf};
 
 /// A page takes a row at the place of its key without a second page: the row of the key is there, or it has room.
-fn takes_row(shape: RowShape, page: &[u8; BLOCK], at: u16, key: &[u8]) -> bool
+pub(crate) fn takes_row(shape: RowShape, page: &[u8; BLOCK], at: u16, key: &[u8]) -> bool
     requires { HasPlace shape page.now }
     ensures { IsTrue result ↔ (((at < count_of page.now) × (option_map (λ row. row.0) (slice_get (rows_in shape page.now) at) ≡ Some key.now)) ⊎ (end_of shape (count_of page.now + 1) ≤ 4096)) }
 {
@@ -38,7 +38,7 @@ fn replace_row(shape: RowShape, page: &mut [u8; BLOCK], at: u16, key: &[u8], bod
 }
 
 /// Puts a row at the place of its key, or over the row of its key.
-fn set_row(shape: RowShape, page: &mut [u8; BLOCK], at: u16, key: &[u8], body: &[u8])
+pub(crate) fn set_row(shape: RowShape, page: &mut [u8; BLOCK], at: u16, key: &[u8], body: &[u8])
     requires some { 0 < shape.key }
     requires place { HasPlace shape page.old }
     requires within { at ≤ count_of page.old }
@@ -57,7 +57,7 @@ fn set_row(shape: RowShape, page: &mut [u8; BLOCK], at: u16, key: &[u8], body: &
 
 /// Splits a full page: the upper half of its rows moves to a page without rows, and the new row goes to the page where
 /// its key belongs then.
-fn split_rows(
+pub(crate) fn split_rows(
     shape: RowShape,
     page: &mut [u8; BLOCK],
     second: &mut [u8; BLOCK],
@@ -87,7 +87,7 @@ fn split_rows(
 
 impl KeyedSet {
     /// Puts a row above all others, or the first of all, at the front of a page without rows.
-    fn begin_page<H: Shelf>(
+    pub(crate) fn begin_page<H: Shelf>(
         &mut self,
         shelf: &mut H,
         key: &[u8],

@@ -1,4 +1,4 @@
-use Rattle.std.proofs.Common.{◌≡◌, ◌≤◌, ℕ, sym, subst, arith}
+use Rattle.std.proofs.Common.{◌≤◌, ℕ, sym, subst, arith}
 use Rattle.keyed_sets.specs.Layout.{end_of}
 use Rattle.keyed_sets.proofs.Putting.{removed_count, replaces}
 use Rattle.keyed_sets.proofs.put.replace_row.Goals as goal

@@ -1,4 +1,4 @@
-use Rattle.std.proofs.Common.{◌≡◌, ◌∙◌, ◌<◌, ℕ, List, Option, length, get_or, set, refl, sym, ap, subst, Some, arith}
+use Rattle.std.proofs.Common.{◌≡◌, ◌∙◌, ℕ, List, length, set, refl, sym, ap, subst, Some}
 use Rattle.std.specs.Prelude.{IfSome, slice_get, insert}
 use Rattle.std.specs.Option.{option_map}
 use Rattle.std.proofs.lemmas.Option.{get_or_from_slice_get, slice_get_read}
@@ -28,10 +28,12 @@ returns-clause-first g c = λ n is.
     let self = c.args.self.now in
     let same : c.index-n.result.now ≡ n = c.index-n.ensures ∙ get_or_from_slice_get self.empty.items 0 n c.index-n.result.now is in
     let starts : StartsWith c.key_at.result.now (rows_in self.shape c.args.page.now) = starts_from (rows_in self.shape c.args.page.now) c.key_at.result.now c.key_at.ensures in
-    let new : First = record { key = c.in_ok-key.key; page = c.index-n.result.now } in
-    (c.in_ok-key.key, subst (λ (k : List ℕ). StartsWith k (rows_in self.shape c.args.page.now)) (sym c.in_ok-key.ensures.ok) starts,
+    let new : First = record { key = c.in_ok-key.key; page = c.index-n.result.now } in (
+      c.in_ok-key.key,
+      subst (λ (k : List ℕ). StartsWith k (rows_in self.shape c.args.page.now)) (sym c.in_ok-key.ensures.ok) starts,
       done_of c.insert.result c.insert.new.self.items (insert self.firsts.items c.args.at new) self.firsts.items (sym c.is_err.ensures.value ∙ c.if-is_err.false) c.insert.ensures.items
-      ∙ ap (λ (k : ℕ). insert self.firsts.items c.args.at (record { key = c.in_ok-key.key; page = k })) same)
+          ∙ ap (λ (k : ℕ). insert self.firsts.items c.args.at (record { key = c.in_ok-key.key; page = k })) same,
+    )
 
 pub returns-clause-empty : goal.returns-clause-empty
 returns-clause-empty g c = c.remove.ensures.items

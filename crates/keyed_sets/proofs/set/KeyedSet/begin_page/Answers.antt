@@ -1,9 +1,8 @@
-use Rattle.std.proofs.Common.{◌≡◌, ◌∙◌, ◌<◌, ◌≤◌, ◌+◌, [], ℕ, List, Option, length, get_or, take, drop, set, refl, sym, ap, subst, Some, Err, arith}
+use Rattle.std.proofs.Common.{◌≡◌, ◌∙◌, ◌<◌, ℕ, List, Option, length, get_or, set, sym, ap, subst, Some, Err}
 use Rattle.std.specs.Prelude.{IfSome, IsSomeAnd, slice_get, insert, All}
 use Rattle.std.specs.Option.{option_map}
 use Rattle.std.specs.List.{remove}
-use Rattle.std.proofs.lemmas.Option.{slice_get-get_or, same_Some}
-use Rattle.std.proofs.lemmas.List.Elements.{All-append, All-cons, All-take, All-drop}
+use Rattle.std.proofs.lemmas.Option.{slice_get-get_or}
 use Rattle.std.proofs.lemmas.Result.{on_ok_weaker, err_from_is_err_and}
 use Rattle.hal_base.specs.Pages.{SameHead}
 use Rattle.hal_base.specs.declared.outcome.PageFault.TheVariants.{NoRoom}
@@ -11,14 +10,14 @@ use Rattle.keyed_sets.specs.declared.index.First.{First}
 use Rattle.keyed_sets.specs.declared.row.RowShape.{RowShape}
 use Rattle.keyed_sets.specs.Changes.{HasSpare, OnlyWritten}
 use Rattle.keyed_sets.specs.Layout.{Row, HasShape, PutsRows, rows_in, count_of}
-use Rattle.keyed_sets.specs.Opened.{IsOpened, Stands, StartsWith}
-use Rattle.keyed_sets.specs.Places.{Puts, IsBegun}
-use Rattle.keyed_sets.specs.Rule.{capacity, tables}
+use Rattle.keyed_sets.specs.Opened.{Stands, StartsWith}
+use Rattle.keyed_sets.specs.Places.{Puts}
+use Rattle.keyed_sets.specs.Rule.{tables}
 use Rattle.keyed_sets.proofs.Putting.{some_put}
-use Rattle.keyed_sets.proofs.Removals.{opened_as, read_opened}
+use Rattle.keyed_sets.proofs.Removals.{opened_as}
 use Rattle.keyed_sets.proofs.Begins.{BegunTold, begun_told, begun_index, room_first, head_at, some_capacity, put_within, fewer_within}
 use Rattle.keyed_sets.proofs.Spares.{grow_read}
-use Rattle.keyed_sets.proofs.Told.{told_as, told_at, where_told, any_err, all_ok, never_err, read_written, then_written}
+use Rattle.keyed_sets.proofs.Told.{told_at, where_told, all_ok, never_err, read_written, then_written}
 use Rattle.keyed_sets.proofs.set.KeyedSet.begin_page.Goals as goal
 
 pub insert_row-requires-clause-room : goal.insert_row-requires-clause-room
@@ -38,7 +37,7 @@ add_page-requires-clause-head g c =
     let self = c.args.self.now in
     let one = c.make_page.new.self in
     where_told (g.H.Shelf.pages_in c.read_empty.new.shelf one.set) (λ pages. (n : ℕ) → slice_get one.empty.items 0 ≡ Some n → IfSome (slice_get pages n) (λ old. SameHead old c.insert_row.new.page)) (λ pages there n is.
-      head_at pages n c.read_empty.new.page c.insert_row.new.page (told_at (g.H.Shelf.pages_in c.make_page.new.shelf one.set) pages (λ l. slice_get l n ≡ Some c.read_empty.new.page) (sym (c.read_empty.ensures.read.pages one.set) ∙ there) (c.in_ok-read_empty.ensures.page n is)) c.insert_row.ensures.head)
+    head_at pages n c.read_empty.new.page c.insert_row.new.page (told_at (g.H.Shelf.pages_in c.make_page.new.shelf one.set) pages (λ l. slice_get l n ≡ Some c.read_empty.new.page) (sym (c.read_empty.ensures.read.pages one.set) ∙ there) (c.in_ok-read_empty.ensures.page n is)) c.insert_row.ensures.head)
 
 pub add_page-requires-clause-below : goal.add_page-requires-clause-below
 add_page-requires-clause-below g c =
@@ -62,7 +61,7 @@ returns-clause-changes g c =
     let sets : one.set ≡ self.set = c.make_page.ensures.same.0 in
     let row : Row = (c.args.key.now, c.args.body.now) in
     on_ok_weaker c.add_page.result (λ staged.
-      let t : BegunTold self.shape told told1 told2 self.firsts.items one.firsts.items self.empty.items one.empty.items c.read_empty.new.page c.insert_row.new.page row = record {
+    let t : BegunTold self.shape told told1 told2 self.firsts.items one.firsts.items self.empty.items one.empty.items c.read_empty.new.page c.insert_row.new.page row = record {
       some = some_capacity self.shape self.some self.short;
       was = c.requires.opened.stands;
       spare = subst (λ s. IfSome told (λ pages. IsSomeAnd (g.H.Shelf.pages_in c.make_page.new.shelf s) (λ after. HasSpare (tables self.shape pages) (tables self.shape after)))) (sym sets) c.in_ok-make_page.ensures.pages;
@@ -75,7 +74,7 @@ returns-clause-changes g c =
       begun = c.requires.begins;
       staged = λ n is. staged n is ∙ ap (option_map (λ (pages : List (List ℕ)). set pages n c.insert_row.new.page)) (c.read_empty.ensures.read.pages one.set);
     } in
-      subst (λ s. Puts self.shape row told (g.H.Shelf.pages_in c.add_page.new.shelf s)) sets (begun_told self.shape told told1 told2 self.firsts.items one.firsts.items self.empty.items one.empty.items c.read_empty.new.page c.insert_row.new.page row t)) c.add_page.ensures.staged
+    subst (λ s. Puts self.shape row told (g.H.Shelf.pages_in c.add_page.new.shelf s)) sets (begun_told self.shape told told1 told2 self.firsts.items one.firsts.items self.empty.items one.empty.items c.read_empty.new.page c.insert_row.new.page row t)) c.add_page.ensures.staged
 
 pub returns-clause-opened : goal.returns-clause-opened
 returns-clause-opened g c =
@@ -92,7 +91,7 @@ returns-clause-opened g c =
     let count : ℕ = length (g.H.Shelf.places c.make_page.new.shelf one.set) in
     let places : length (g.H.Shelf.places c.add_page.new.shelf new.set) ≡ count = ap (λ s. length (g.H.Shelf.places c.add_page.new.shelf s)) c.add_page.ensures.same.0 ∙ ap (λ (l : List ℕ). length l) (c.add_page.ensures.written.places one.set ∙ c.read_empty.ensures.read.places one.set) in
     all_ok c.add_page.result c.add_page.ensures.staged c.add_page.ensures.first c.add_page.ensures.empty (λ staged first empty.
-      let t : BegunTold self.shape told told1 told2 self.firsts.items one.firsts.items self.empty.items one.empty.items c.read_empty.new.page c.insert_row.new.page row = record {
+    let t : BegunTold self.shape told told1 told2 self.firsts.items one.firsts.items self.empty.items one.empty.items c.read_empty.new.page c.insert_row.new.page row = record {
       some = some_capacity self.shape self.some self.short;
       was = c.requires.opened.stands;
       spare = subst (λ s. IfSome told (λ pages. IsSomeAnd (g.H.Shelf.pages_in c.make_page.new.shelf s) (λ after. HasSpare (tables self.shape pages) (tables self.shape after)))) (sym sets) c.in_ok-make_page.ensures.pages;
@@ -105,17 +104,17 @@ returns-clause-opened g c =
       begun = c.requires.begins;
       staged = λ n is. staged n is ∙ ap (option_map (λ (pages : List (List ℕ)). set pages n c.insert_row.new.page)) (c.read_empty.ensures.read.pages one.set);
     } in
-      let f = first n is in
-      let at : ℕ = length one.firsts.items in
-      let ends : c.len-at.result ≡ at = c.len-at.ensures ∙ one.firsts.ok.0 in
-      let new_first : First = record { key = f.0; page = n } in
-      let starts : StartsWith f.0 (rows_in self.shape c.insert_row.new.page) = subst (λ (s : RowShape). StartsWith f.0 (rows_in s c.insert_row.new.page)) c.make_page.ensures.same.1 f.1 in
-      opened_as self.shape new.shape (insert one.firsts.items at new_first) new.firsts.items (remove one.empty.items 0) new.empty.items count (length (g.H.Shelf.places c.add_page.new.shelf new.set)) told2 (g.H.Shelf.pages_in c.add_page.new.shelf new.set)
-      (c.add_page.ensures.same.1 ∙ c.make_page.ensures.same.1) (f.2 ∙ ap (λ (k : ℕ). insert one.firsts.items k new_first) ends) empty places (ap (g.H.Shelf.pages_in c.add_page.new.shelf) c.add_page.ensures.same.0) (record {
-        firsts_within = put_within one.firsts.items at new_first count (c.make_page.ensures.opened.empty_within 0 0 c.in_ok-make_page.ensures.some) c.make_page.ensures.opened.firsts_within;
-        empty_within = fewer_within one.empty.items count c.make_page.ensures.opened.empty_within;
-        stands = begun_index self.shape told told1 told2 self.firsts.items one.firsts.items self.empty.items one.empty.items c.read_empty.new.page c.insert_row.new.page row f.0 n t is starts;
-      }))
+    let f = first n is in
+    let at : ℕ = length one.firsts.items in
+    let ends : c.len-at.result ≡ at = c.len-at.ensures ∙ one.firsts.ok.0 in
+    let new_first : First = record { key = f.0; page = n } in
+    let starts : StartsWith f.0 (rows_in self.shape c.insert_row.new.page) = subst (λ (s : RowShape). StartsWith f.0 (rows_in s c.insert_row.new.page)) c.make_page.ensures.same.1 f.1 in
+    opened_as self.shape new.shape (insert one.firsts.items at new_first) new.firsts.items (remove one.empty.items 0) new.empty.items count (length (g.H.Shelf.places c.add_page.new.shelf new.set)) told2 (g.H.Shelf.pages_in c.add_page.new.shelf new.set)
+    (c.add_page.ensures.same.1 ∙ c.make_page.ensures.same.1) (f.2 ∙ ap (λ (k : ℕ). insert one.firsts.items k new_first) ends) empty places (ap (g.H.Shelf.pages_in c.add_page.new.shelf) c.add_page.ensures.same.0) (record {
+      firsts_within = put_within one.firsts.items at new_first count (c.make_page.ensures.opened.empty_within 0 0 c.in_ok-make_page.ensures.some) c.make_page.ensures.opened.firsts_within;
+      empty_within = fewer_within one.empty.items count c.make_page.ensures.opened.empty_within;
+      stands = begun_index self.shape told told1 told2 self.firsts.items one.firsts.items self.empty.items one.empty.items c.read_empty.new.page c.insert_row.new.page row f.0 n t is starts;
+    }))
 
 pub returns-clause-same : goal.returns-clause-same
 returns-clause-same g c =

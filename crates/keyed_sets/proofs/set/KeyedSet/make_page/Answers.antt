@@ -1,4 +1,4 @@
-use Rattle.std.proofs.Common.{◌≡◌, ◌∙◌, ◌<◌, ◌+◌, ◌∷◌, ◌++◌, [], ℕ, List, Option, length, refl, sym, ap, subst, Some, Err, inr, eqb, arith}
+use Rattle.std.proofs.Common.{◌≡◌, ◌∙◌, ◌+◌, ◌∷◌, ◌++◌, [], ℕ, List, Option, length, refl, sym, ap, Err, inr, arith}
 use Rattle.std.specs.Prelude.{IfSome}
 use Rattle.std.specs.Option.{option_map}
 use Rattle.hal_base.specs.Pages.{empty_page}
@@ -9,7 +9,7 @@ use Rattle.hal_base.specs.declared.outcome.PageFault.TheVariants.{NoRoom}
 use Rattle.keyed_sets.specs.Opened.{with_number}
 use Rattle.keyed_sets.proofs.Removals.{opened_as}
 use Rattle.keyed_sets.proofs.Spares.{same_spare, grown_spare, grown_opened, same_grow}
-use Rattle.keyed_sets.proofs.Told.{where_told, any_err}
+use Rattle.keyed_sets.proofs.Told.{where_told}
 use Rattle.keyed_sets.proofs.set.KeyedSet.make_page.Goals as goal
 
 pub returns-then-not-is_empty-clause-pages : goal.returns-then-not-is_empty-clause-pages
