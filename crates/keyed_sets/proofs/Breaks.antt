@@ -1,9 +1,9 @@
 -- What a page is where the walk over it ends.
-use Rattle.std.proofs.Common.{◌≡◌, ℕ, ◌+◌, ◌-◌, ◌*◌, ◌<◌, ◌≤◌, Bool, true, false, cond, List, length, drop, replicate, min, eqb, ltb, refl, sym, ap, subst, ◌∙◌, arith}
+use Rattle.std.proofs.Common.{◌≡◌, ℕ, ◌-◌, ◌<◌, ◌≤◌, Bool, true, false, cond, List, length, drop, replicate, min, eqb, ltb, sym, ap, subst, ◌∙◌, arith}
 use Rattle.std.specs.Prelude.{◌&&◌, slice_index}
 use Rattle.std.proofs.lemmas.Bool.{ne_eqb, eq-eqb, lt-ltb, le-ltb}
 use Rattle.keyed_sets.specs.declared.row.RowShape.{RowShape}
-use Rattle.keyed_sets.specs.Layout.{Row, rows_from, rows_in, count_of, end_of, HasZeros}
+use Rattle.keyed_sets.specs.Layout.{Row, rows_from, count_of, end_of}
 use Rattle.keyed_sets.specs.Rule.{capacity, rising_count, IsRowPage, placed_rows, break_place}
 use Rattle.keyed_sets.proofs.Rows.{length-rows_from}
 use Rattle.keyed_sets.proofs.Rising.{rising-le, capacity_place, place_capacity}

@@ -1,12 +1,12 @@
 -- What is among a list after an element was put in, taken out or replaced.
-use Rattle.std.proofs.Common.{Result, Ok, Err, cond, ◌≡◌, ◌⊎◌, ℕ, zero, suc, ◌+◌, ◌<◌, ◌≤◌, true, false, List, [], ◌∷◌, ◌++◌, length, get_or, take, drop, set, Option, Some, None, inl, inr, refl, sym, ap, subst, ◌∙◌, arith}
+use Rattle.std.proofs.Common.{Result, Ok, Err, cond, ◌≡◌, ◌⊎◌, ℕ, zero, suc, ◌+◌, ◌<◌, ◌≤◌, true, false, List, [], ◌∷◌, ◌++◌, length, get_or, take, drop, Option, Some, None, inl, inr, refl, sym, subst, ◌∙◌, arith}
 use Rattle.std.specs.Prelude.{Contains, IsSomeAnd, insert, is_ok, is_err}
-use Rattle.std.specs.List.{AllWithin, AllZip, remove}
+use Rattle.std.specs.List.{AllWithin, AllZip}
 use Rattle.std.proofs.lemmas.List.{take-append-drop, get_or-drop, get_or-take, length-take-le, length-drop}
 use Rattle.std.proofs.lemmas.List.Elements.{Contains-append_left, Contains-append_right, Contains-append_cases}
 use Rattle.keyed_sets.specs.Layout.{is_below}
 use Rattle.keyed_sets.specs.Map.{KeysRise}
-use Rattle.keyed_sets.proofs.Members.{nothing_there, at_front, further, front_or, rise-append, rise-left, rise-right, rise-between}
+use Rattle.keyed_sets.proofs.Members.{at_front, further, front_or, rise-append, rise-left, rise-right, rise-between}
 
 pub in_parts : {X : Type 0} (xs : List X) (i : ℕ) (y : X) → Contains xs y → Contains (take i xs) y ⊎ Contains (drop i xs) y
 in_parts {X} xs i y c = Contains-append_cases (take i xs) (drop i xs) y (subst (λ (l : List X). Contains l y) (sym (take-append-drop i xs)) c)

@@ -14,6 +14,17 @@ pub mod Numbers
 pub mod Placing
 pub mod Removes
 pub mod Removals
+pub mod Putting
+pub mod Adding
+pub mod Spares
+pub mod Begins
+pub mod Splits
+pub mod Homes
+pub mod Fits
+pub mod Halves
+pub mod Shares
+pub mod Spared
+pub mod Sought
 pub mod Members
 pub mod Sets
 pub mod PageByPage

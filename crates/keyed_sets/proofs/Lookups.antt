@@ -1,12 +1,12 @@
 -- What a set answers where a row is looked up in one page.
-use Rattle.std.proofs.Common.{◌≡◌, ◌⊎◌, ℕ, zero, suc, ◌+◌, ◌-◌, ◌<◌, ◌≤◌, true, false, List, [], ◌∷◌, length, get_or, drop, Option, Some, None, Result, Ok, Err, inl, inr, refl, sym, ap, subst, ◌∙◌, arith}
+use Rattle.std.proofs.Common.{◌≡◌, ℕ, ◌-◌, ◌<◌, ◌≤◌, true, false, List, [], ◌∷◌, length, get_or, drop, Option, Some, None, Result, Ok, Err, inl, inr, refl, sym, ap, subst, ◌∙◌, arith}
 use Rattle.std.specs.Prelude.{Contains, IfSome, IfOk, slice_get}
 use Rattle.std.specs.List.{AllWithin}
 use Rattle.std.specs.Option.{option_map}
 use Rattle.std.proofs.lemmas.Bool.{both_ways, cases_order}
 use Rattle.std.proofs.lemmas.Option.{same_Some, slice_get-get_or, slice_get_within, get_or_from_slice_get}
 use Rattle.std.proofs.lemmas.Result.{IfOk-weaker}
-use Rattle.std.proofs.lemmas.List.{get_or-map, get_or_read}
+use Rattle.std.proofs.lemmas.List.{get_or-map}
 use Rattle.std.proofs.lemmas.List.Elements.{Contains-get_or}
 use Rattle.std.proofs.lemmas.List.Sums.{prefix_len_passes, prefix_len_stops}
 use Rattle.keyed_sets.specs.declared.row.RowShape.{RowShape}
@@ -15,13 +15,11 @@ use Rattle.keyed_sets.specs.Layout.{Row, rows_in, rows_from, count_of, is_below,
 use Rattle.keyed_sets.specs.Map.{KeysRise, lookup, rows_of}
 use Rattle.keyed_sets.specs.Rule.{KeepsRule, Rise, tables, page_rows}
 use Rattle.keyed_sets.specs.Opened.{Stands, StartsWith}
-use Rattle.keyed_sets.specs.Opening.{AreApart}
 use Rattle.keyed_sets.proofs.Keys.{below_itself}
 use Rattle.keyed_sets.proofs.Maps.{Rows, lookup_is, lookup_none}
 use Rattle.keyed_sets.proofs.Members.{rise_at, rise_one}
 use Rattle.keyed_sets.proofs.Openings.{IsSplit, no_first, split_from}
-use Rattle.keyed_sets.proofs.Sets.{IsIn, lawful, row_in, in_rows, rows_rise, same_lookup, above_split, Side, Here, Lower, Behind, side_of}
-use Rattle.keyed_sets.proofs.Told.{where_told}
+use Rattle.keyed_sets.proofs.Sets.{lawful, row_in, in_rows, rows_rise, same_lookup, above_split, Here, Lower, Behind, side_of}
 
 pub nowhere : Row
 nowhere = ([], [])

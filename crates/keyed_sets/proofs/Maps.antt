@@ -1,5 +1,5 @@
 -- Lists of rows that rise by key, as maps: what is among them says what is looked up, and what they are.
-use Rattle.std.proofs.Common.{◌≡◌, ◌⊎◌, ℕ, Bool, true, false, cond, List, [], ◌∷◌, ◌++◌, length, Option, Some, None, inl, inr, refl, sym, ap, subst, ◌∙◌, arith}
+use Rattle.std.proofs.Common.{◌≡◌, ◌⊎◌, ℕ, Bool, true, false, cond, List, [], ◌∷◌, Option, Some, None, inl, inr, refl, sym, ap, subst, ◌∙◌}
 use Rattle.std.specs.Prelude.{Contains}
 use Rattle.std.specs.Option.{option_or}
 use Rattle.std.specs.Str.{bytes_eq}
@@ -7,7 +7,7 @@ use Rattle.std.proofs.lemmas.Slice.Eq.{bytes_eq-Decides}
 use Rattle.std.proofs.lemmas.Bool.{false_from_ne_true}
 use Rattle.keyed_sets.specs.Layout.{Row, is_below}
 use Rattle.keyed_sets.specs.Map.{KeysRise, lookup, first_above, next_after, last_below, with_row, without_row, in_order}
-use Rattle.keyed_sets.proofs.Keys.{below_trans, below_itself, below_both, three_ways, below_false, not_below}
+use Rattle.keyed_sets.proofs.Keys.{below_trans, below_itself, below_both, three_ways, below_false}
 use Rattle.keyed_sets.proofs.Members.{nothing_there, at_front, further, front_or, the_only}
 
 -- rows whose keys rise

@@ -1,13 +1,13 @@
 -- What is among the elements of a list, and lists whose keys rise.
-use Rattle.std.proofs.Common.{not, ◌≡◌, ◌⊎◌, ℕ, zero, suc, ◌+◌, ◌<◌, ◌≤◌, true, false, cond, List, [], ◌∷◌, ◌++◌, length, get_or, take, drop, inl, inr, refl, sym, ap, subst, ◌∙◌, arith}
-use Rattle.std.specs.Prelude.{Contains, ⊤}
+use Rattle.std.proofs.Common.{not, ◌≡◌, ◌⊎◌, ℕ, zero, suc, ◌<◌, true, false, cond, List, [], ◌∷◌, ◌++◌, length, get_or, inl, inr, refl, sym, ap, ◌∙◌, arith}
+use Rattle.std.specs.Prelude.{Contains}
 use Rattle.std.specs.List.Sorted.{IsPartitionedBy}
 use Rattle.std.proofs.lemmas.Bool.{not-true, not_from_false, cases_eq}
 use Rattle.std.proofs.lemmas.List.Elements.{Contains-get_or, Contains-append_left, Contains-append_right, Contains-append_cases}
 use Rattle.keyed_sets.specs.Layout.{Row, is_below}
 use Rattle.keyed_sets.specs.Map.{KeysRise}
 use Rattle.keyed_sets.specs.Rule.{rising_count, Rise}
-use Rattle.keyed_sets.proofs.Keys.{below_trans, below_false, below_upto, below_both}
+use Rattle.keyed_sets.proofs.Keys.{below_trans, below_false}
 
 pub nothing_there : {X : Type 0} (x : X) → Contains [] x → ⊥
 nothing_there x c = absurd (omega (arith, c.1))

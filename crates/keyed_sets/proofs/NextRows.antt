@@ -1,5 +1,5 @@
 -- The rows next to a key, found in the page where it belongs or the one behind it.
-use Rattle.std.proofs.Common.{◌≡◌, ◌⊎◌, ℕ, zero, suc, ◌+◌, ◌-◌, ◌<◌, ◌≤◌, Bool, true, false, cond, List, [], ◌∷◌, length, get_or, Option, Some, None, Result, Ok, Err, inl, inr, refl, sym, ap, subst, ◌∙◌, arith}
+use Rattle.std.proofs.Common.{◌≡◌, ◌⊎◌, ℕ, ◌+◌, ◌-◌, ◌<◌, ◌≤◌, Bool, true, false, cond, List, [], ◌∷◌, length, get_or, Option, Some, None, Result, Ok, Err, inl, inr, refl, sym, ap, subst, ◌∙◌, arith}
 use Rattle.std.specs.Prelude.{Contains, IfSome, IfOk, slice_get}
 use Rattle.std.proofs.lemmas.Result.{IfOk-weaker}
 use Rattle.std.specs.List.{AllWithin}
@@ -13,16 +13,16 @@ use Rattle.keyed_sets.specs.declared.row.RowShape.{RowShape}
 use Rattle.keyed_sets.specs.declared.index.First.{First}
 use Rattle.keyed_sets.specs.Layout.{Row, rows_in, is_below, place_of}
 use Rattle.keyed_sets.specs.Map.{KeysRise, first_above, next_after, last_below, rows_of}
-use Rattle.keyed_sets.specs.Rule.{Rise, tables, page_rows}
+use Rattle.keyed_sets.specs.Rule.{tables, page_rows}
 use Rattle.keyed_sets.specs.Opened.{StartsWith, IsIndex, Stands}
 use Rattle.keyed_sets.specs.Opening.{AreApart}
-use Rattle.keyed_sets.proofs.Keys.{below_both, below_itself, below_trans, below_false, below_upto, upto_below, three_ways, not_below}
+use Rattle.keyed_sets.proofs.Keys.{below_both, below_itself, below_trans, below_false, below_upto, three_ways}
 use Rattle.keyed_sets.proofs.Maps.{Rows, above_is, above_none, least_is, least_none, below_is, below_none}
 use Rattle.keyed_sets.proofs.Members.{nothing_there, at_front, further, front_or, rise_at}
-use Rattle.keyed_sets.proofs.Tables.{first_row, from_first}
+use Rattle.keyed_sets.proofs.Tables.{from_first}
 use Rattle.keyed_sets.proofs.Openings.{IsSplit, split_from, no_first, before_by_first}
 use Rattle.keyed_sets.proofs.Told.{told_at}
-use Rattle.keyed_sets.proofs.Sets.{IsIn, lawful, row_in, in_rows, rows_rise, above_split, Side, Here, Lower, Behind, side_of}
+use Rattle.keyed_sets.proofs.Sets.{lawful, row_in, in_rows, rows_rise, Here, Lower, Behind, side_of}
 use Rattle.keyed_sets.proofs.Lookups.{missing_at, page_is}
 
 -- a row by its key and its body

@@ -1,8 +1,8 @@
 -- A number put in its place among others, and the numbers of the pages without rows.
-use Rattle.std.proofs.Common.{◌≡◌, ◌⊎◌, ℕ, zero, suc, ◌+◌, ◌-◌, ◌<◌, ◌≤◌, Bool, true, false, cond, List, [], ◌∷◌, ◌++◌, length, get_or, take, drop, set, ltb, inl, inr, refl, sym, ap, subst, ◌∙◌, append_assoc, arith}
+use Rattle.std.proofs.Common.{◌≡◌, ℕ, zero, suc, ◌+◌, ◌<◌, ◌≤◌, Bool, cond, List, [], ◌∷◌, ◌++◌, length, get_or, take, drop, inl, inr, refl, sym, ap, ◌∙◌, append_assoc, arith}
 use Rattle.std.specs.Prelude.{Contains, insert}
 use Rattle.std.proofs.lemmas.Bool.{lt-ltb, le-ltb}
-use Rattle.std.proofs.lemmas.List.{drop_more, take_more, drop_all, take_all, append-nil}
+use Rattle.std.proofs.lemmas.List.{drop_more, take_more, drop_all}
 use Rattle.keyed_sets.specs.Layout.{Row}
 use Rattle.keyed_sets.specs.Opened.{with_number, empty_numbers}
 use Rattle.keyed_sets.proofs.Members.{front_or}
@@ -71,3 +71,37 @@ numbers_left from ((row ∷ others) ∷ table) (suc n) lt some =
     let sum : (from + 1) + n ≡ from + suc n = omega arith in
     ap (λ (k : ℕ). empty_numbers (from + 1) (take n table ++ [] ∷ drop k ((row ∷ others) ∷ table))) one
     ∙ numbers_left (from + 1) table n (omega (arith, lt)) some ∙ ap (λ (k : ℕ). with_number k (empty_numbers (from + 1) table)) sum
+
+-- the first page without rows, once it has some
+pub record FirstNumber (from n : ℕ) (rest : List ℕ) (table : List (List Row)) : Type 0 where
+  pub place : ℕ
+  pub is : n ≡ from + place
+  pub within : place < length table
+  pub nothing : get_or table place [] ≡ []
+  pub later : (row : Row) (rows : List Row) → empty_numbers from (take place table ++ (row ∷ rows) ∷ drop (place + 1) table) ≡ rest
+
+same_head : (a n : ℕ) (xs ns : List ℕ) → a ∷ xs ≡ n ∷ ns → (a ≡ n) × (xs ≡ ns)
+same_head a n xs ns is = (cc, cc)
+
+pub first_number : (from n : ℕ) (rest : List ℕ) (table : List (List Row)) → empty_numbers from table ≡ n ∷ rest → FirstNumber from n rest table
+first_number from n rest [] is = absurd (let long : 0 ≡ suc (length rest) = ap (λ (l : List ℕ). length l) is in omega (arith, long))
+first_number from n rest ([] ∷ table) is =
+    let parts = same_head from n (empty_numbers (from + 1) table) rest is in
+    record {
+      place = 0;
+      is = omega (arith, parts.0);
+      within = omega arith;
+      nothing = refl;
+      later = λ row rows. parts.1;
+    }
+first_number from n rest ((row ∷ others) ∷ table) is =
+    let more = first_number (from + 1) n rest table is in
+    record {
+      place = suc more.place;
+      is = omega (arith, more.is);
+      within = omega (arith, more.within);
+      nothing = more.nothing;
+      later = λ first rows.
+          let one : suc more.place + 1 ≡ suc (more.place + 1) = omega arith in
+          ap (λ (k : ℕ). empty_numbers from (take (suc more.place) ((row ∷ others) ∷ table) ++ (first ∷ rows) ∷ drop k ((row ∷ others) ∷ table))) one ∙ more.later first rows;
+    }

@@ -1,7 +1,7 @@
 -- A page that is taken in: its keys stand between those of the pages before, or cross those of one of them.
-use Rattle.std.proofs.Common.{◌≡◌, ◌⊎◌, ℕ, zero, suc, ◌+◌, ◌-◌, ◌<◌, ◌≤◌, true, false, List, [], ◌∷◌, ◌++◌, length, get_or, take, drop, Option, Some, inl, inr, refl, sym, ap, subst, ◌∙◌, arith}
+use Rattle.std.proofs.Common.{◌≡◌, ◌⊎◌, ℕ, ◌+◌, ◌-◌, ◌<◌, ◌≤◌, true, false, List, [], ◌∷◌, ◌++◌, length, get_or, inl, inr, refl, sym, ap, subst, ◌∙◌, arith}
 use Rattle.std.specs.Prelude.{Contains, IfSome, IsSomeAnd, slice_get, insert, ⊤}
-use Rattle.std.specs.List.{AllWithin, AllZip}
+use Rattle.std.specs.List.{AllWithin}
 use Rattle.std.proofs.lemmas.Bool.{both_ways, cases_lt, cases_eq, cases_order}
 use Rattle.std.proofs.lemmas.Option.{MatchOption-at_some, slice_get-get_or, slice_get_within, get_or_from_slice_get}
 use Rattle.std.proofs.lemmas.List.{length_push}
@@ -16,7 +16,7 @@ use Rattle.keyed_sets.proofs.Keys.{below_both, below_itself, below_false, below_
 use Rattle.keyed_sets.proofs.Maps.{Rows}
 use Rattle.keyed_sets.proofs.Members.{nothing_there, at_front, rise_at}
 use Rattle.keyed_sets.proofs.Edited.{put_or, put_new, put_old, put_rises, holds_before, holds_behind, from_take, zip_put, zip_weaker, zip_at, zip_back, some_and}
-use Rattle.keyed_sets.proofs.Tables.{page_past, page_old, page_new, row_within, page_or, page_kept, apart_turned, apart_none, first_row, last_row, from_first, upto_last, below_by_first}
+use Rattle.keyed_sets.proofs.Tables.{page_past, page_old, page_new, row_within, page_or, apart_turned, apart_none, first_row, last_row, from_first, upto_last, below_by_first}
 
 pub no_first : First
 no_first = record { key = []; page = 0 }
@@ -36,7 +36,7 @@ pub record IsRange (first last : List ℕ) (rows : List Row) : Type 0 where
   pub starts : StartsWith first rows
   pub ends : EndsWith last rows
 
-nothing_or : (rows : List Row) → (rows ≡ []) ⊎ ((row : Row) × Contains rows row)
+pub nothing_or : (rows : List Row) → (rows ≡ []) ⊎ ((row : Row) × Contains rows row)
 nothing_or [] = inl refl
 nothing_or (row ∷ rows) = inr (row, at_front row rows)
 

@@ -1,10 +1,10 @@
 -- A set's pages are taken in one by one, up to the first that breaks the rule.
-use Rattle.std.proofs.Common.{◌≡◌, ◌⊎◌, ℕ, zero, suc, ◌+◌, ◌-◌, ◌<◌, ◌≤◌, true, false, List, [], ◌∷◌, ◌++◌, length, get_or, take, drop, map, Option, Some, None, eqb, ltb, inl, inr, refl, sym, ap, subst, ◌∙◌, arith}
-use Rattle.std.specs.Prelude.{Contains, IfSome, slice_get, slice_index, All, ⊤}
+use Rattle.std.proofs.Common.{◌≡◌, ℕ, ◌+◌, ◌<◌, List, [], ◌∷◌, ◌++◌, length, get_or, take, drop, Option, Some, eqb, ltb, sym, ap, subst, ◌∙◌, arith}
+use Rattle.std.specs.Prelude.{IfSome, slice_get, slice_index, ⊤}
 use Rattle.std.proofs.lemmas.Bool.{eq-eqb, le-ltb}
 use Rattle.std.proofs.lemmas.Option.{MatchOption-at_some, slice_get_within, get_or_from_slice_get}
-use Rattle.std.proofs.lemmas.List.{take_more, map-append, length-map, length-append, length-take-le, get_or-take, get_or_append_left, get_or_push, get_or-map, length_push}
-use Rattle.std.proofs.lemmas.List.Elements.{All-push, All-get_or}
+use Rattle.std.proofs.lemmas.List.{take_more, map-append, length-map, length-take-le, get_or-take}
+use Rattle.std.proofs.lemmas.List.Elements.{All-push}
 use Rattle.keyed_sets.specs.declared.row.RowShape.{RowShape}
 use Rattle.keyed_sets.specs.declared.index.First.{First}
 use Rattle.keyed_sets.specs.Layout.{Row, rows_in, rows_from, end_of}
@@ -21,7 +21,7 @@ one_more pages n page there = take_more pages n page (slice_get_within pages n p
 tables_more : (shape : RowShape) (pages : List (List ℕ)) (page : List ℕ) → tables shape (pages ++ page ∷ []) ≡ tables shape pages ++ rows_in shape page ∷ []
 tables_more shape pages page = map-append (rows_in shape) pages (page ∷ [])
 
-rule_more : (shape : RowShape) (pages : List (List ℕ)) (page : List ℕ) → KeepsRule shape pages → IsRowPage shape page → AreApart (tables shape pages ++ rows_in shape page ∷ []) → KeepsRule shape (pages ++ page ∷ [])
+pub rule_more : (shape : RowShape) (pages : List (List ℕ)) (page : List ℕ) → KeepsRule shape pages → IsRowPage shape page → AreApart (tables shape pages ++ rows_in shape page ∷ []) → KeepsRule shape (pages ++ page ∷ [])
 rule_more shape pages page rule lawful apart = record {
   each = All-push (IsRowPage shape) pages page rule.each lawful;
   apart = λ m n lt within. subst (λ (t : List (List Row)). Apart (page_rows t m) (page_rows t n)) (sym (tables_more shape pages page)) (apart.apart m n (λ is. absurd (omega (arith, is, lt))));

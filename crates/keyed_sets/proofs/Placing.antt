@@ -1,25 +1,23 @@
 -- A page of a table that has other rows now: the pages stay apart, the index stays right, and the set has other rows.
-use Rattle.std.proofs.Common.{◌≡◌, ◌⊎◌, ℕ, zero, suc, ◌+◌, ◌-◌, ◌<◌, ◌≤◌, Bool, true, false, cond, List, [], ◌∷◌, ◌++◌, length, get_or, take, drop, set, map, Option, Some, None, inl, inr, refl, sym, ap, subst, ◌∙◌, arith}
-use Rattle.std.specs.Prelude.{Contains, slice_get, slice_index, All, insert}
+use Rattle.std.proofs.Common.{◌≡◌, ◌⊎◌, ℕ, suc, ◌+◌, ◌-◌, ◌<◌, ◌≤◌, true, List, [], ◌∷◌, ◌++◌, length, get_or, take, drop, set, inl, inr, refl, sym, ap, subst, ◌∙◌, arith}
+use Rattle.std.specs.Prelude.{Contains, All}
 use Rattle.std.specs.List.{remove}
-use Rattle.std.proofs.lemmas.Bool.{both_ways, cases_lt, cases_eq, cases_order}
-use Rattle.std.proofs.lemmas.Option.{slice_get_within, get_or_from_slice_get}
-use Rattle.std.proofs.lemmas.List.{get_or_append_left, get_or-append-add, get_or-append_right, get_or-take, get_or-drop, length-take-le, length-drop, length-append, set_split, map-set, get_or-map, length-map, length-set, same_lists, take_all, drop_all, take-append-drop, drop_more, get_or_default, get_or_past}
-use Rattle.std.proofs.lemmas.List.Elements.{Contains-append_left, Contains-append_right, Contains-append_cases, Contains-get_or, All-set, All-push}
+use Rattle.std.proofs.lemmas.Bool.{cases_eq, cases_order}
+use Rattle.std.proofs.lemmas.List.{get_or_append_left, get_or-append_right, get_or-take, get_or-drop, length-take-le, set_split, map-set, length-map, take-append-drop, drop_more}
+use Rattle.std.proofs.lemmas.List.Elements.{Contains-append_left, Contains-append_right, Contains-append_cases}
 use Rattle.keyed_sets.specs.declared.row.RowShape.{RowShape}
 use Rattle.keyed_sets.specs.declared.index.First.{First}
 use Rattle.keyed_sets.specs.Changes.{placed}
 use Rattle.keyed_sets.specs.Layout.{Row, rows_in, is_below, PutsRows}
 use Rattle.keyed_sets.specs.Map.{KeysRise, rows_of, with_row, without_row}
 use Rattle.keyed_sets.specs.Rule.{IsRowPage, KeepsRule, Rise, Apart, tables, page_rows}
-use Rattle.keyed_sets.specs.Opened.{StartsWith, IsIndex, empty_numbers, with_number}
+use Rattle.keyed_sets.specs.Opened.{StartsWith, IsIndex}
 use Rattle.keyed_sets.specs.Opening.{AreApart}
-use Rattle.keyed_sets.proofs.Keys.{below_both, below_itself, below_trans, below_upto, upto_below, three_ways}
+use Rattle.keyed_sets.proofs.Keys.{below_itself}
 use Rattle.keyed_sets.proofs.Maps.{Rows, same_rows, with_row_has, with_row_new, with_row_old, with_row_rises, without_row_has, without_row_old, without_row_rises}
-use Rattle.keyed_sets.proofs.Members.{nothing_there, at_front, further, front_or, rise_all, rise_one, rise-append, rise-left, rise-right, rise-between}
-use Rattle.keyed_sets.proofs.Tables.{page_past, row_within, apart_turned, apart_none, first_row, from_first, below_by_first}
-use Rattle.keyed_sets.proofs.Sets.{IsIn, lawful, row_in, in_rows, rows_rise, one_place, one_in}
-use Rattle.keyed_sets.proofs.Openings.{before_by_first}
+use Rattle.keyed_sets.proofs.Members.{nothing_there, at_front, further, front_or, rise-append, rise-left, rise-right, rise-between}
+use Rattle.keyed_sets.proofs.Tables.{apart_turned}
+use Rattle.keyed_sets.proofs.Sets.{IsIn, row_in, in_rows, rows_rise}
 
 pub placed_here : (n : ℕ) (rows : List Row) (table : List (List Row)) → n ≤ length table → page_rows (placed n rows table) n ≡ rows
 placed_here n rows table le =

@@ -1,12 +1,12 @@
 -- What a set and its pages are after a row was taken away, where they are told.
-use Rattle.std.proofs.Common.{◌≡◌, ◌⊎◌, ℕ, zero, suc, ◌+◌, ◌-◌, ◌<◌, ◌≤◌, Bool, true, false, cond, List, [], ◌∷◌, ◌++◌, length, get_or, take, drop, set, map, ltb, Option, Some, None, inl, inr, refl, sym, ap, subst, ◌∙◌, arith}
+use Rattle.std.proofs.Common.{◌≡◌, ℕ, ◌-◌, ◌<◌, ◌≤◌, Bool, true, false, cond, List, [], ◌∷◌, length, get_or, drop, set, map, ltb, Option, Some, None, inl, inr, refl, sym, ap, subst, ◌∙◌, arith}
 use Rattle.std.specs.Prelude.{Contains, IfSome, IsSomeAnd, slice_get, All, is_some}
 use Rattle.std.specs.List.{remove, AllWithin}
 use Rattle.std.specs.Option.{option_map}
 use Rattle.std.proofs.lemmas.Bool.{cases_Bool, cases_eq}
-use Rattle.std.proofs.lemmas.Option.{same_Some, none-some, slice_get-get_or, slice_get_within, get_or_from_slice_get}
-use Rattle.std.proofs.lemmas.List.{get_or_default, length-map}
-use Rattle.std.proofs.lemmas.List.Elements.{Contains-get_or, All-set, All-take, All-drop, All-append, All-cons, All-head, All-tail}
+use Rattle.std.proofs.lemmas.Option.{none-some, slice_get_within}
+use Rattle.std.proofs.lemmas.List.{length-map}
+use Rattle.std.proofs.lemmas.List.Elements.{Contains-get_or, All-cons, All-head, All-tail}
 use Rattle.hal_base.specs.Pages.{SameHead}
 use Rattle.hal_base.specs.declared.pages.SetId.{SetId}
 use Rattle.keyed_sets.specs.Shelves.{OnlyRead}
@@ -15,16 +15,15 @@ use Rattle.keyed_sets.specs.declared.index.First.{First}
 use Rattle.keyed_sets.specs.Changes.{placed, Changes}
 use Rattle.keyed_sets.specs.Layout.{Row, rows_in, rows_from, count_of, is_below, place_of, PutsRows}
 use Rattle.keyed_sets.specs.Map.{KeysRise, lookup, rows_of, without_row}
-use Rattle.keyed_sets.specs.Rule.{KeepsRule, Rise, Apart, tables, page_rows}
-use Rattle.keyed_sets.specs.Opened.{StartsWith, IsIndex, Stands, IsOpened, with_number}
+use Rattle.keyed_sets.specs.Rule.{Apart, tables, page_rows}
+use Rattle.keyed_sets.specs.Opened.{StartsWith, Stands, IsOpened, with_number}
 use Rattle.keyed_sets.specs.Opening.{AreApart}
-use Rattle.keyed_sets.proofs.Rows.{length-rows_in}
-use Rattle.keyed_sets.proofs.Keys.{below_upto, below_itself}
+use Rattle.keyed_sets.proofs.Keys.{below_upto}
 use Rattle.keyed_sets.proofs.Maps.{Rows, lookup_is, lookup_none, same_rows, without_row_has, without_row_old, without_row_rises}
 use Rattle.keyed_sets.proofs.Members.{rise_all}
 use Rattle.keyed_sets.proofs.Tables.{first_row, from_first}
 use Rattle.keyed_sets.proofs.Openings.{IsSplit, split_from, before_by_first}
-use Rattle.keyed_sets.proofs.Sets.{IsIn, lawful, row_in, in_rows, rows_rise, one_place}
+use Rattle.keyed_sets.proofs.Sets.{IsIn, lawful, in_rows, rows_rise, one_place}
 use Rattle.keyed_sets.proofs.Told.{told_at}
 use Rattle.keyed_sets.proofs.Lookups.{nowhere, key_at_is, page_is, page_rises, missing_at, found_in_page}
 use Rattle.keyed_sets.proofs.Placing.{placed_or, placed_here, placed_other, apart_fewer, rows_without, front_below, back_above, in_back}

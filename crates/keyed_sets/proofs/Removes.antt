@@ -1,30 +1,26 @@
 -- A row taken away from a set.
-use Rattle.std.proofs.Common.{◌≡◌, ◌⊎◌, ℕ, zero, suc, ◌+◌, ◌-◌, ◌<◌, ◌≤◌, true, false, List, [], ◌∷◌, ◌++◌, length, get_or, take, drop, set, map, Option, Some, None, inl, inr, refl, sym, ap, subst, ◌∙◌, arith}
-use Rattle.std.specs.Prelude.{Contains, IfSome, IsSomeAnd, slice_get, All, is_some}
-use Rattle.std.specs.List.{remove, AllWithin}
-use Rattle.std.specs.Option.{option_map}
-use Rattle.std.proofs.lemmas.Bool.{both_ways, cases_lt, cases_eq}
+use Rattle.std.proofs.Common.{◌≡◌, ℕ, zero, suc, ◌+◌, ◌<◌, true, List, [], ◌∷◌, length, get_or, take, drop, set, map, Some, inl, inr, refl, sym, ap, subst, ◌∙◌, arith}
+use Rattle.std.specs.Prelude.{Contains, slice_get}
+use Rattle.std.specs.List.{remove}
+use Rattle.std.proofs.lemmas.Bool.{cases_eq}
 use Rattle.std.proofs.lemmas.Option.{slice_get_within, get_or_from_slice_get}
 use Rattle.std.proofs.lemmas.List.{same_lists, length-map, length-append, length-take-le, length-drop, get_or-map, get_or_default}
 use Rattle.std.proofs.lemmas.List.Elements.{Contains-get_or, All-set}
-use Rattle.hal_base.specs.Pages.{SameHead}
 use Rattle.keyed_sets.specs.declared.row.RowShape.{RowShape}
 use Rattle.keyed_sets.specs.declared.index.First.{First}
-use Rattle.keyed_sets.specs.Changes.{placed, Changes}
-use Rattle.keyed_sets.specs.Layout.{Row, rows_in, is_below, place_of, PutsRows}
-use Rattle.keyed_sets.specs.Map.{KeysRise, lookup, rows_of, without_row}
-use Rattle.keyed_sets.specs.Rule.{IsRowPage, KeepsRule, Rise, Apart, tables, page_rows}
+use Rattle.keyed_sets.specs.Changes.{placed}
+use Rattle.keyed_sets.specs.Layout.{Row, rows_in, is_below, PutsRows}
+use Rattle.keyed_sets.specs.Map.{without_row}
+use Rattle.keyed_sets.specs.Rule.{IsRowPage, KeepsRule, Apart, tables, page_rows}
 use Rattle.keyed_sets.specs.Opened.{StartsWith, IsIndex, Stands, empty_numbers, with_number}
 use Rattle.keyed_sets.specs.Opening.{AreApart}
-use Rattle.keyed_sets.proofs.Keys.{below_both, below_itself, below_upto}
-use Rattle.keyed_sets.proofs.Maps.{Rows, lookup_is, lookup_none, gone, stays, same_or, without_row_has, without_row_old, without_row_rises}
-use Rattle.keyed_sets.proofs.Members.{nothing_there, at_front, rise_all, rise_one}
-use Rattle.keyed_sets.proofs.Tables.{page_past, row_within, first_row, from_first}
-use Rattle.keyed_sets.proofs.Openings.{IsSplit, split_from, before_by_first}
-use Rattle.keyed_sets.proofs.Sets.{IsIn, lawful, row_in, in_rows, rows_rise, Side, Here, Lower, Behind, side_of, above_split}
-use Rattle.keyed_sets.proofs.Lookups.{page_is, above_all}
+use Rattle.keyed_sets.proofs.Keys.{below_itself}
+use Rattle.keyed_sets.proofs.Maps.{Rows, gone, stays}
+use Rattle.keyed_sets.proofs.Members.{nothing_there, at_front, rise_one}
+use Rattle.keyed_sets.proofs.Tables.{first_row}
+use Rattle.keyed_sets.proofs.Sets.{IsIn, lawful}
 use Rattle.keyed_sets.proofs.Numbers.{numbers_same, numbers_left}
-use Rattle.keyed_sets.proofs.Placing.{placed_here, placed_other, placed_or, apart_placed, apart_fewer, index_set, index_removed, row_page_put, rule_from, set_placed, rows_without, front_below, back_above, in_back}
+use Rattle.keyed_sets.proofs.Placing.{placed_here, placed_other, apart_placed, index_set, index_removed, row_page_put, rule_from, set_placed}
 
 -- the row at a place is the row of its key
 pub remove_is : (rows : List Row) (at : ℕ) (key : List ℕ) (d : Row) → Rows rows → at < length rows → (get_or rows at d).0 ≡ key → remove rows at ≡ without_row key rows

@@ -1,12 +1,12 @@
 -- A walk over the rows of a page, up to the first that isn't above the one before it.
-use Rattle.std.proofs.Common.{◌≡◌, ℕ, zero, suc, ◌+◌, ◌-◌, ◌*◌, ◌/◌, ◌<◌, ◌≤◌, Bool, true, false, cond, List, [], ◌∷◌, length, get_or, take, drop, min, refl, sym, ap, subst, ◌∙◌, drop-cons, arith}
-use Rattle.std.proofs.lemmas.List.{length-drop, drop_all, drop-drop}
+use Rattle.std.proofs.Common.{◌≡◌, ℕ, zero, suc, ◌+◌, ◌*◌, ◌<◌, ◌≤◌, Bool, true, false, cond, List, [], ◌∷◌, length, get_or, take, drop, sym, ap, ◌∙◌, drop-cons, arith}
+use Rattle.std.proofs.lemmas.List.{drop_all}
 use Rattle.std.proofs.lemmas.Option.{get_or_from_slice_get}
 use Rattle.std.proofs.Math.Nat.{le-div_iff_mul-le, mul-div-le, mul-le-mul_left}
 use Rattle.keyed_sets.specs.declared.row.RowShape.{RowShape}
-use Rattle.keyed_sets.specs.Layout.{Row, row_length, rows_from, count_of, end_of, is_below}
+use Rattle.keyed_sets.specs.Layout.{Row, row_length, rows_from, end_of, is_below}
 use Rattle.keyed_sets.specs.Rule.{capacity, rising_count}
-use Rattle.keyed_sets.proofs.Rows.{length-rows_from, row_there}
+use Rattle.keyed_sets.proofs.Rows.{row_there}
 
 pub none : Row
 none = ([], [])

@@ -1,24 +1,21 @@
 -- The rows of a set are those of its pages, and each page is found by its first key.
-use Rattle.std.proofs.Common.{◌≡◌, ◌⊎◌, ℕ, zero, suc, ◌+◌, ◌-◌, ◌<◌, ◌≤◌, true, false, List, [], ◌∷◌, ◌++◌, length, get_or, take, drop, map, Option, Some, None, inl, inr, refl, sym, ap, subst, ◌∙◌, arith}
-use Rattle.std.specs.Prelude.{Contains, slice_get, All}
+use Rattle.std.proofs.Common.{◌≡◌, ◌⊎◌, ℕ, zero, suc, ◌-◌, ◌<◌, ◌≤◌, true, List, [], ◌∷◌, length, get_or, inl, inr, sym, ap, subst, ◌∙◌, arith}
+use Rattle.std.specs.Prelude.{Contains}
 use Rattle.std.specs.List.{flat_map}
-use Rattle.std.specs.Option.{option_map}
-use Rattle.std.proofs.lemmas.Bool.{both_ways, cases_lt, cases_eq, cases_order}
-use Rattle.std.proofs.lemmas.Option.{same_Some, none-some, slice_get-get_or, slice_get_within}
+use Rattle.std.proofs.lemmas.Bool.{cases_lt, cases_eq, cases_order}
 use Rattle.std.proofs.lemmas.List.{length-map, get_or-map, get_or_default}
 use Rattle.std.proofs.lemmas.List.Elements.{Contains-get_or, Contains-append_left, Contains-append_right, Contains-append_cases}
-use Rattle.std.proofs.lemmas.List.Sums.{prefix_len_passes, prefix_len_stops}
 use Rattle.keyed_sets.specs.declared.row.RowShape.{RowShape}
 use Rattle.keyed_sets.specs.declared.index.First.{First}
-use Rattle.keyed_sets.specs.Layout.{Row, rows_in, is_below, place_of}
-use Rattle.keyed_sets.specs.Map.{KeysRise, lookup, in_order, rows_of}
-use Rattle.keyed_sets.specs.Rule.{IsRowPage, KeepsRule, Apart, tables, page_rows}
-use Rattle.keyed_sets.specs.Opened.{StartsWith, IsIndex, Stands}
+use Rattle.keyed_sets.specs.Layout.{Row, rows_in, is_below}
+use Rattle.keyed_sets.specs.Map.{lookup, rows_of}
+use Rattle.keyed_sets.specs.Rule.{KeepsRule, tables, page_rows}
+use Rattle.keyed_sets.specs.Opened.{IsIndex}
 use Rattle.keyed_sets.specs.Opening.{AreApart}
-use Rattle.keyed_sets.proofs.Keys.{below_both, below_itself, below_trans, below_false, below_upto, upto_below, three_ways}
-use Rattle.keyed_sets.proofs.Maps.{Rows, one_row, lookup_is, lookup_none, in_order_rises, in_order_has, in_order_all, same_rows}
+use Rattle.keyed_sets.proofs.Keys.{below_itself, below_upto, three_ways}
+use Rattle.keyed_sets.proofs.Maps.{Rows, one_row, lookup_is, lookup_none, in_order_rises, in_order_has, in_order_all}
 use Rattle.keyed_sets.proofs.Members.{nothing_there, at_front, further, front_or, rise_all, rise_at}
-use Rattle.keyed_sets.proofs.Tables.{page_past, row_within, apart_turned, apart_none, first_row, from_first}
+use Rattle.keyed_sets.proofs.Tables.{page_past, apart_turned, apart_none, first_row, from_first}
 use Rattle.keyed_sets.proofs.Openings.{IsSplit, before_by_first}
 
 -- what a row among the pages of a table is

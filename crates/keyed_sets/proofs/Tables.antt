@@ -1,16 +1,15 @@
 -- The rows of pages, where a page is added behind the others.
-use Rattle.std.proofs.Common.{Option, Some, true, false, ◌≡◌, ◌⊎◌, ℕ, zero, suc, ◌+◌, ◌<◌, ◌≤◌, List, [], ◌∷◌, ◌++◌, length, get_or, inl, inr, refl, sym, ap, subst, ◌∙◌, arith}
+use Rattle.std.proofs.Common.{Option, Some, true, false, ◌≡◌, ◌⊎◌, ℕ, zero, suc, ◌+◌, ◌<◌, ◌≤◌, List, [], ◌∷◌, ◌++◌, length, inl, inr, sym, ap, subst, ◌∙◌, arith}
 use Rattle.std.specs.Prelude.{Contains, slice_get}
 use Rattle.std.specs.Option.{option_map}
 use Rattle.std.proofs.lemmas.Option.{same_Some, none-some}
 use Rattle.std.proofs.lemmas.Bool.{cases_order, cases_lt}
 use Rattle.std.proofs.lemmas.List.{get_or_append_left, get_or_push, get_or_past, length_push}
 use Rattle.keyed_sets.specs.Layout.{Row, is_below}
-use Rattle.keyed_sets.specs.Map.{KeysRise}
 use Rattle.keyed_sets.specs.Rule.{page_rows, Apart, AllBelow}
 use Rattle.keyed_sets.specs.Opened.{StartsWith}
-use Rattle.keyed_sets.specs.Opening.{EndsWith, AreApart}
-use Rattle.keyed_sets.proofs.Keys.{below_both, below_itself, below_trans, below_false, not_below}
+use Rattle.keyed_sets.specs.Opening.{EndsWith}
+use Rattle.keyed_sets.proofs.Keys.{below_both, below_itself, below_false}
 use Rattle.keyed_sets.proofs.Maps.{Rows}
 use Rattle.keyed_sets.proofs.Members.{nothing_there, at_front, further, front_or}
 

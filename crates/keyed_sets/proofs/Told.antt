@@ -3,7 +3,6 @@ use Rattle.std.proofs.Common.{◌≡◌, ℕ, false, List, Option, Some, None, R
 use Rattle.std.specs.Prelude.{IfSome, OnOk, OnErr, is_err, ⊤}
 use Rattle.std.proofs.lemmas.Option.{MatchOption-at_some}
 use Rattle.hal_base.specs.declared.pages.SetId.{SetId}
-use Rattle.hal_base.specs.Pages.{SameSets}
 use Rattle.keyed_sets.specs.Changes.{OnlyWritten}
 use Rattle.keyed_sets.specs.Shelves.{OnlyRead}
 
@@ -59,3 +58,20 @@ then_written told standing left goes set a b c on first second = record {
 pub any_err : {T E P : Type 0} (r : Result T E) → P → OnErr r P
 any_err (Ok t) holds = tt
 any_err (Err e) holds = holds
+
+pub all_ok : {T E A B C D : Type 0} (r : Result T E) → OnOk r A → OnOk r B → OnOk r C → (A → B → C → D) → OnOk r D
+all_ok (Ok t) a b c then = then a b c
+all_ok (Err e) a b c then = tt
+
+pub never_err : {T E P : Type 0} (r : Result T E) (e : E) → (r ≡ Err e → ⊥) → r ≡ Err e → P
+never_err r e never is = absurd (never is)
+
+-- two writes to one data set
+pub written_then : {S : Type 0} (told : S → SetId → Option (List (List ℕ))) (standing : S → SetId → List ℕ) (left : S → List ℕ) (goes : S → S → Type 0) (set : SetId) (a b c : S) → ((a b c : S) → goes a b → goes b c → goes a c)
+    → OnlyWritten told standing left goes set a b → OnlyWritten told standing left goes set b c → OnlyWritten told standing left goes set a c
+written_then told standing left goes set a b c on first second = record {
+  others = λ other apart. second.others other apart ∙ first.others other apart;
+  places = λ other. second.places other ∙ first.places other;
+  free = second.free ∙ first.free;
+  steady = on a b c first.steady second.steady;
+}

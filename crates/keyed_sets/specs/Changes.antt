@@ -1,11 +1,12 @@
 -- What a call that changes rows makes of the pages of a set, and leaves of the shelf.
-use Rattle.std.specs.Prelude.{◌≡◌, ℕ, ◌+◌, List, ◌∷◌, ◌++◌, Option, take, drop, IfSome, IsSomeAnd}
+use Rattle.std.specs.Prelude.{◌≡◌, ◌⊎◌, ℕ, ◌+◌, List, [], ◌∷◌, ◌++◌, Option, take, drop, IfSome, IsSomeAnd}
 use Rattle.hal_base.specs.Pages.{SameSets, SameOthers}
 use Rattle.hal_base.specs.declared.pages.SetId.{SetId}
 use Rattle.keyed_sets.specs.declared.row.RowShape.{RowShape}
 use Rattle.keyed_sets.specs.Layout.{Row}
 use Rattle.keyed_sets.specs.Map.{rows_of}
 use Rattle.keyed_sets.specs.Rule.{tables}
+use Rattle.keyed_sets.specs.Opened.{empty_numbers}
 
 -- the page of this number has these rows now; it may be a new one, behind the last
 abbrev pub placed : ℕ → List Row → List (List Row) → List (List Row)
@@ -22,3 +23,14 @@ pub record OnlyWritten {S : Type 0} (told : S → SetId → Option (List (List �
   pub places : SameSets (standing old) (standing new)
   pub free : left new ≡ left old
   pub steady : goes old new
+
+-- the same of a call that may add one page to the set, which takes the first free block
+pub record MayGrow {S : Type 0} (told : S → SetId → Option (List (List ℕ))) (standing : S → SetId → List ℕ) (left : S → List ℕ) (goes : S → S → Type 0) (set : SetId) (old new : S) : Type 0 where
+  pub others : SameOthers set (told old) (told new)
+  pub other_places : SameOthers set (standing old) (standing new)
+  pub block : ((standing new set ≡ standing old set) × (left new ≡ left old)) ⊎ ((block : ℕ) × (left old ≡ block ∷ left new) × (standing new set ≡ standing old set ++ block ∷ []))
+  pub steady : goes old new
+
+-- the pages are as they were, or have one more that has no rows, where no page had none
+abbrev pub HasSpare : (before after : List (List Row)) → Type 0
+HasSpare before after = (after ≡ before) ⊎ ((after ≡ before ++ [] ∷ []) × (empty_numbers 0 before ≡ []))

@@ -4,5 +4,7 @@ pub mod Layout
 pub mod Map
 pub mod Opened
 pub mod Opening
+pub mod Places
 pub mod Rule
 pub mod Shelves
+pub mod Goes

@@ -1,5 +1,5 @@
 -- A set's rows as a map from key to body: a list whose keys rise, as the records of a VSAM key-sequenced data set stand.
-use Rattle.std.specs.Prelude.{◌≡◌, ℕ, Bool, if◌then◌else◌, List, [], ◌∷◌, Option, None, Some, IsTrue, Contains, ⊤}
+use Rattle.std.specs.Prelude.{ℕ, if◌then◌else◌, List, [], ◌∷◌, Option, None, Some, IsTrue, Contains, ⊤}
 use Rattle.std.specs.List.{flat_map}
 use Rattle.std.specs.Option.{option_or}
 use Rattle.std.specs.Str.{bytes_eq}

@@ -1,5 +1,5 @@
 -- When a page by itself is a page of rows, when pages are those of a set, as soundness rule 3 asks, and where they first aren't.
-use Rattle.std.specs.Prelude.{◌≡◌, ◌⊎◌, ℕ, suc, ◌+◌, ◌/◌, ◌<◌, ◌≤◌, ◌==◌, ◌&&◌, nat_lt, min, Bool, IsTrue, if◌then◌else◌, List, [], ◌∷◌, length, map, take, drop, slice_index, slice_index_or, All, Contains}
+use Rattle.std.specs.Prelude.{◌≡◌, ◌⊎◌, ℕ, suc, ◌+◌, ◌/◌, ◌<◌, ◌==◌, ◌&&◌, nat_lt, min, IsTrue, if◌then◌else◌, List, [], ◌∷◌, length, map, take, drop, slice_index, slice_index_or, All, Contains}
 use Rattle.keyed_sets.specs.declared.row.RowShape.{RowShape}
 use Rattle.keyed_sets.specs.Layout.{Row, row_length, rows_from, rows_in, count_of, end_of, HasPlace, HasZeros, is_below}
 

@@ -14,14 +14,18 @@ mod check;
 mod edit;
 mod fetch;
 mod index;
+mod insert;
 mod lookup;
 mod neighbours;
 mod open;
 mod opening;
 mod page;
+mod put;
 mod remove;
 mod row;
+mod second;
 mod set;
+mod split;
 mod stage;
 
 pub use check::{capacity, page_break};

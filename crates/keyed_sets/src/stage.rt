@@ -17,7 +17,7 @@ use crate::lookup::copied;
 use crate::page::key_at;
 use hal_base::{BLOCK, PageFault, SetId, Shelf, StageFault};
 
-fn stage_rows<H: Shelf>(
+pub(crate) fn stage_rows<H: Shelf>(
     shelf: &mut H,
     set: SetId,
     n: u16,
@@ -54,7 +54,7 @@ fn number_place(numbers: &[u16], n: u16) -> usize
 }
 
 /// Makes room for one number more.
-fn make_slot(numbers: &mut Vec<u16>) -> Result<(), PageFault>
+pub(crate) fn make_slot(numbers: &mut Vec<u16>) -> Result<(), PageFault>
     ensures items { numbers.new.items ≡ numbers.old.items }
     ensures room { OnOk result (vec_len numbers.new < vec_capacity numbers.new) }
     ensures memory { (fault : PageFault) → result ≡ Err fault → fault ≡ PageFault.Memory }
@@ -66,7 +66,7 @@ fn make_slot(numbers: &mut Vec<u16>) -> Result<(), PageFault>
 }
 
 /// Puts a number, for which there is room, in its place.
-fn insert_number(numbers: &mut Vec<u16>, n: u16)
+pub(crate) fn insert_number(numbers: &mut Vec<u16>, n: u16)
     requires { vec_len numbers.old < vec_capacity numbers.old }
     ensures { numbers.new.items ≡ with_number n numbers.old.items }
 {

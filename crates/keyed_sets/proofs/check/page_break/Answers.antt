@@ -1,8 +1,7 @@
-use Rattle.std.proofs.Common.{◌≡◌, ℕ, ◌≤◌, Bool, true, false, min, ap, refl, ◌∙◌, sym, arith}
+use Rattle.std.proofs.Common.{◌≡◌, ◌≤◌, Bool, true, false, min, ap, ◌∙◌, arith}
 use Rattle.keyed_sets.specs.Layout.{count_of, end_of}
 use Rattle.keyed_sets.specs.Rule.{capacity}
-use Rattle.keyed_sets.proofs.Rows.{few_rows}
-use Rattle.keyed_sets.proofs.Rising.{capacity_place, rising-le}
+use Rattle.keyed_sets.proofs.Rising.{capacity_place}
 use Rattle.keyed_sets.proofs.Breaks.{is_row_page, breaks_by_kind, breaks_at_row, breaks_behind}
 use Rattle.keyed_sets.proofs.check.page_break.Goals as goal
 

@@ -1,6 +1,6 @@
 use Rattle.std.proofs.Common.{◌≡◌, ℕ, ◌+◌, ◌-◌, ◌<◌, ◌≤◌, List, ◌*◌, length, get_or, take, drop, sym, ap, ◌∙◌, arith}
 use Rattle.std.proofs.lemmas.List.{drop-drop}
-use Rattle.keyed_sets.specs.Layout.{Row, row_length, rows_from, end_of}
+use Rattle.keyed_sets.specs.Layout.{Row, row_length, rows_from}
 use Rattle.keyed_sets.proofs.Rows.{length-rows_from, end_monotone}
 use Rattle.keyed_sets.proofs.Rising.{none, walked_key, rising_on, rising_off, rising_last}
 use Rattle.keyed_sets.proofs.check.rising_in.Goals as goal

@@ -1,4 +1,4 @@
-use Rattle.std.proofs.Common.{Bool, true, false, List, ℕ, not, rules}
+use Rattle.std.proofs.Common.{not, rules}
 use Rattle.std.proofs.lemmas.Bool.{not-true, not-false}
 use Rattle.std.proofs.lemmas.List.Sorted.{IsPartitionPoint-from_clause}
 use Rattle.keyed_sets.specs.Layout.{is_below}

@@ -1,4 +1,4 @@
-use Rattle.std.proofs.Common.{◌≡◌, ◌<◌, ◌∙◌, List, length, sym, ap, Some, None, arith}
+use Rattle.std.proofs.Common.{◌<◌, ◌∙◌, List, length, sym, ap, Some, arith}
 use Rattle.std.proofs.lemmas.Bool.{both_ways}
 use Rattle.keyed_sets.specs.Layout.{Row, rows_in}
 use Rattle.keyed_sets.proofs.Rows.{length-rows_in}

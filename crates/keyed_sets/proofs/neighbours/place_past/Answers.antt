@@ -1,4 +1,4 @@
-use Rattle.std.proofs.Common.{◌≡◌, ◌<◌, ◌+◌, ◌∙◌, List, ℕ, length, subst, sym, true, arith}
+use Rattle.std.proofs.Common.{◌≡◌, ◌+◌, List, subst, true, arith}
 use Rattle.std.specs.List.{AllWithin}
 use Rattle.std.proofs.lemmas.Bool.{both_ways}
 use Rattle.keyed_sets.specs.Layout.{Row, rows_in, is_below}

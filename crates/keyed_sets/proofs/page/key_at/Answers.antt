@@ -1,4 +1,4 @@
-use Rattle.std.proofs.Common.{◌≡◌, ◌+◌, ◌≤◌, Some, sym, ap, refl, ◌∙◌, arith}
+use Rattle.std.proofs.Common.{Some, sym, ap, refl, ◌∙◌, arith}
 use Rattle.keyed_sets.specs.Layout.{end_of}
 use Rattle.keyed_sets.proofs.Rows.{key_found, end_more, row_ends}
 use Rattle.keyed_sets.proofs.page.key_at.Goals as goal

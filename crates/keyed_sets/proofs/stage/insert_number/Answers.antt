@@ -1,4 +1,4 @@
-use Rattle.std.proofs.Common.{◌≡◌, ◌∙◌, List, ℕ, Bool, cond, ap, sym}
+use Rattle.std.proofs.Common.{◌∙◌, List, ℕ, Bool, cond, ap, sym}
 use Rattle.std.specs.Prelude.{insert}
 use Rattle.keyed_sets.specs.Opened.{with_number}
 use Rattle.keyed_sets.proofs.stage.insert_number.Goals as goal

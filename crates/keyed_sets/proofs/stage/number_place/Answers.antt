@@ -1,4 +1,4 @@
-use Rattle.std.proofs.Common.{◌≡◌, ◌++◌, ℕ, take, drop, refl, length, sym, ap, subst, ◌∙◌, arith}
+use Rattle.std.proofs.Common.{◌≡◌, ◌++◌, ℕ, take, drop, refl, length, ap, ◌∙◌, arith}
 use Rattle.keyed_sets.specs.Opened.{with_number}
 use Rattle.keyed_sets.proofs.Numbers.{number_more, number_here, number_last}
 use Rattle.keyed_sets.proofs.stage.number_place.Goals as goal

@@ -1,4 +1,4 @@
-use Rattle.std.proofs.Common.{◌≡◌, ◌++◌, ◌≤◌, length, take, drop}
+use Rattle.std.proofs.Common.{◌≡◌, ◌++◌, take, drop}
 use Rattle.keyed_sets.specs.Opened.{with_number}
 use Rattle.keyed_sets.proofs.stage.number_place.Given as goal
 

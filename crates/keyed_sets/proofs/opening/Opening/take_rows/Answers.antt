@@ -1,7 +1,6 @@
-use Rattle.std.proofs.Common.{◌≡◌, ◌++◌, ◌∷◌, ◌+◌, ◌-◌, ◌<◌, [], ℕ, List, length, drop, refl, sym, ap, subst, ◌∙◌, arith, rules}
+use Rattle.std.proofs.Common.{◌≡◌, ◌++◌, ◌∷◌, ◌+◌, ◌-◌, [], ℕ, List, length, drop, sym, ap, subst, ◌∙◌, arith}
 use Rattle.std.proofs.lemmas.Result.{on_ok_weaker}
 use Rattle.keyed_sets.specs.Layout.{Row, rows_in, rows_from}
-use Rattle.keyed_sets.specs.Rule.{page_rows}
 use Rattle.keyed_sets.specs.Opened.{StartsWith}
 use Rattle.keyed_sets.specs.Opening.{EndsWith, AreTaken}
 use Rattle.keyed_sets.proofs.Rows.{length-rows_in}

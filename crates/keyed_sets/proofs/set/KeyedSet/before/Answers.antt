@@ -1,11 +1,10 @@
-use Rattle.std.proofs.Common.{◌≡◌, ◌<◌, ◌+◌, ◌-◌, ◌∙◌, ℕ, List, length, get_or, sym, ap, subst, refl, Some, None, arith}
-use Rattle.std.specs.Prelude.{IfSome, slice_get}
+use Rattle.std.proofs.Common.{◌≡◌, ◌<◌, ◌-◌, ◌∙◌, ℕ, List, length, get_or, sym, ap, subst, Some, None, arith}
+use Rattle.std.specs.Prelude.{slice_get}
 use Rattle.std.proofs.lemmas.List.{get_or_default}
 use Rattle.std.proofs.lemmas.Option.{slice_get-get_or}
 use Rattle.keyed_sets.specs.declared.index.First.{First}
-use Rattle.keyed_sets.specs.Layout.{Row, rows_in, place_of}
+use Rattle.keyed_sets.specs.Layout.{Row, place_of}
 use Rattle.keyed_sets.specs.Map.{last_below, rows_of}
-use Rattle.keyed_sets.specs.Rule.{tables, page_rows}
 use Rattle.keyed_sets.specs.Opened.{Stands}
 use Rattle.keyed_sets.proofs.Openings.{no_first}
 use Rattle.keyed_sets.proofs.Lookups.{page_is}

@@ -1,8 +1,6 @@
-use Rattle.std.proofs.Common.{◌≡◌, ◌∙◌, ◌<◌, ℕ, List, set, length, refl, sym, ap, subst, Some, arith}
-use Rattle.std.specs.Prelude.{IfSome, slice_get, insert, is_ok, IsOk}
+use Rattle.std.proofs.Common.{◌≡◌, ◌∙◌, ℕ, List, set, length, refl, ap, subst, Some}
+use Rattle.std.specs.Prelude.{IfSome, slice_get}
 use Rattle.std.specs.Option.{option_map}
-use Rattle.std.specs.List.{remove}
-use Rattle.std.specs.Vec.{vec_capacity}
 use Rattle.std.proofs.lemmas.Option.{get_or_from_slice_get, slice_get_read}
 use Rattle.keyed_sets.specs.declared.index.First.{First}
 use Rattle.keyed_sets.specs.Opened.{with_number}

@@ -1,17 +1,16 @@
-use Rattle.std.proofs.Common.{◌≡◌, ◌<◌, ◌-◌, ◌∙◌, ℕ, true, false, List, Option, length, get_or, take, drop, suc, map, set, refl, sym, ap, subst, Some, None, arith}
+use Rattle.std.proofs.Common.{◌≡◌, ◌<◌, ◌-◌, ◌∙◌, ℕ, false, List, Option, length, get_or, take, drop, suc, set, refl, sym, ap, subst, Some, None, arith}
 use Rattle.std.specs.Prelude.{IfSome, slice_get, is_some, All}
 use Rattle.std.specs.List.{remove}
 use Rattle.std.specs.Option.{option_map}
 use Rattle.std.proofs.lemmas.Bool.{both_ways}
 use Rattle.std.proofs.lemmas.List.{get_or_default}
-use Rattle.std.proofs.lemmas.List.Elements.{All-set, All-take, All-drop, All-append, All-contains}
-use Rattle.std.proofs.lemmas.Option.{slice_get-get_or, slice_get_within, get_or_from_slice_get}
-use Rattle.hal_base.specs.Pages.{SameHead, SameSets}
+use Rattle.std.proofs.lemmas.List.Elements.{All-set, All-take, All-drop, All-append}
+use Rattle.std.proofs.lemmas.Option.{slice_get-get_or, get_or_from_slice_get}
+use Rattle.hal_base.specs.Pages.{SameHead}
 use Rattle.keyed_sets.specs.declared.index.First.{First}
-use Rattle.keyed_sets.specs.Changes.{Changes}
 use Rattle.keyed_sets.specs.Layout.{Row, rows_in}
-use Rattle.keyed_sets.specs.Map.{lookup, rows_of, without_row}
-use Rattle.keyed_sets.specs.Opened.{Stands, IsOpened, with_number}
+use Rattle.keyed_sets.specs.Map.{lookup, rows_of}
+use Rattle.keyed_sets.specs.Opened.{Stands, with_number}
 use Rattle.keyed_sets.proofs.Rows.{length-rows_in}
 use Rattle.keyed_sets.proofs.Openings.{IsSplit, split_from, no_first}
 use Rattle.keyed_sets.proofs.Lookups.{nothing_found}
