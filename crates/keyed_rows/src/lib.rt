@@ -15,4 +15,6 @@ pub fn key_of(number: u8) -> [u8; 3]
 }
 
 #[cfg(test)]
+mod puts;
+#[cfg(test)]
 mod sets;
