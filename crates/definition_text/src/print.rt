@@ -21,6 +21,7 @@ pub fn print_dbd(alloc: Global, schema: &Schema) -> Result<Bytes, Memory>
     // With the canonical partition file behind it, it is a definition of this schema and of no other.
     ensures rebuilds { IfOk result (λ text. IsDefinitionOf (text ++ partitions_text schema.now) schema.now) }
 {
+    // Read for their range alone: numbers of 32 bits are read back from their digits.
     let (_anch, _rbn) = (schema.anch, schema.rbn);
     let text = definition_printer::print_dbd(alloc, schema)?;
     Ok(text)
