@@ -21,6 +21,12 @@ pub done_or_not : {T E P Q : Type 0} (r : Result T E) → OnOk r P → OnErr r Q
 done_or_not (Ok x) done kept = inl done
 done_or_not (Err e) done kept = inr kept
 
+-- blocks that aren't told aren't told after a stage
+pub staged_untold : {T E X Y : Type 0} (f : X → X) (read : X → Y) (old new : Option X) (r : Result T E) → OnOk r (new ≡ option_map f old) → OnErr r (new ≡ old) → option_map read old ≡ None → option_map read new ≡ None
+staged_untold f read None new (Ok x) done kept none = ap (option_map read) done
+staged_untold f read (Some l) new (Ok x) done kept none = absurd (none-some (read l) (sym none))
+staged_untold f read old new (Err e) done kept none = ap (option_map read) kept ∙ none
+
 -- the number of a page's block
 pub place_number : (control number : ℕ) (pages : List PagePlace) (free : List ℕ) (set : SetId) (n k : ℕ) → IsTable control number pages free → slice_get (places_of set pages) n ≡ Some k → IsBetween control number k
 place_number control number pages free set n k table got =
