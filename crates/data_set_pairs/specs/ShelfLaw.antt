@@ -1,6 +1,7 @@
 -- What a shelf promises of its pages and free blocks holds of a volume.
 use Rattle.std.proofs.Common.{◌≡◌, ◌∙◌, ℕ, ◌+◌, ◌≤◌, true, List, [], ◌∷◌, length, get_or, Option, None, Some, nat_le, refl, sym, ap, subst, arith}
-use Rattle.std.specs.Prelude.{All, IfSome}
+use Rattle.std.specs.Prelude.{All, IfSome, ◌==◌}
+use Rattle.std.specs.List.{list_any}
 use Rattle.std.specs.Option.{option_map}
 use Rattle.std.proofs.lemmas.Bool.{and_parts, and_from, le-leb, leb-true}
 use Rattle.std.proofs.lemmas.List.{length-map}
@@ -13,7 +14,7 @@ use Rattle.hal_base.specs.declared.place.PartState.{PartState}
 use Rattle.data_set_pairs.specs.declared.place.PagePlace.{PagePlace}
 use Rattle.data_set_pairs.specs.Table.{IsBetween, IsTable, is_page_of, pages_of, places_of}
 use Rattle.data_set_pairs.specs.Volume.{IsLaidOut}
-use Rattle.data_set_pairs.specs.Shelf.{blocks_at, SameControl}
+use Rattle.data_set_pairs.specs.Shelf.{blocks_at, SameControl, FreeStays}
 
 pub rise_weaker : (from low : ℕ) (ns : List ℕ) → low ≤ from → rises_from from ns ≡ true → rises_from low ns ≡ true
 rise_weaker from low [] le rise = refl
@@ -42,6 +43,19 @@ pages_fit indexes control number states pages free set (Some list) table laid =
 pub untold_alike : {X Y Z : Type 0} (f : X → Y) (g : X → Z) (told : Option X) → option_map f told ≡ None → option_map g told ≡ None
 untold_alike f g None none = refl
 untold_alike f g (Some x) none = absurd (none-some (f x) (sym none))
+
+-- nothing changed
+pub free_stays : (before now : List ℕ) (old new : Option (List (List ℕ))) → now ≡ before → new ≡ old → FreeStays before now old new
+free_stays before now old new free same = record {
+  fewer = λ block any. subst (λ (l : List ℕ). list_any (λ n. n == block) l ≡ true) free any;
+  same = λ block any. ap (option_map (λ list. get_or list block [])) same;
+}
+
+pub free_then : (a b c : List ℕ) (x y z : Option (List (List ℕ))) → FreeStays a b x y → FreeStays b c y z → FreeStays a c x z
+free_then a b c x y z first second = record {
+  fewer = λ block any. first.fewer block (second.fewer block any);
+  same = λ block any. second.same block any ∙ first.same block (second.fewer block any);
+}
 
 pub control_then : (control other : ℕ) (a b c : Option (List (List ℕ))) → other ≡ control → SameControl control a b → SameControl other b c → SameControl control a c
 control_then control other a b c is first second = subst (λ (n : ℕ). SameControl n b c) is second ∙ first

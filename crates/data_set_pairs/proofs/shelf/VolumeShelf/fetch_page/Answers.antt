@@ -1,6 +1,7 @@
 use Rattle.std.proofs.Common.{◌≡◌, ◌∙◌, reverse, take, refl, ap, sym, subst, arith, List, Some, slice_get}
 use Rattle.std.specs.Option.{option_map}
 use Rattle.data_set_pairs.specs.Shelf.{blocks_at}
+use Rattle.data_set_pairs.specs.ShelfLaw.{free_stays}
 use Rattle.std.proofs.lemmas.Result.{on_ok_weaker}
 use Rattle.data_set_pairs.specs.declared.place.PagePlace.{PagePlace}
 use Rattle.data_set_pairs.specs.Table.{places_of}
@@ -37,7 +38,7 @@ returns-clause-leaves g c =
     let v = c.args.self.now in
     record {
       keeps = record {
-        is_steady = (record { is_steady = c.fetch.ensures.leaves.1; same = c.fetch.ensures.leaves.0; faults = c.fetch.ensures.faults.later }, refl, ap (option_map (take v.control)) c.fetch.ensures.list.0);
+        is_steady = (record { is_steady = c.fetch.ensures.leaves.1; same = c.fetch.ensures.leaves.0; faults = c.fetch.ensures.faults.later }, refl, ap (option_map (take v.control)) c.fetch.ensures.list.0, free_stays (reverse v.table.free.items) (reverse v.table.free.items) (g.B.Blocks.seen v.blocks).list (g.B.Blocks.seen c.fetch.new.self).list refl c.fetch.ensures.list.0);
         takes = λ set kind. refl;
         faults = c.fetch.ensures.faults;
         fetches = c.fetch.ensures.leaves.0.fetches;

@@ -10,7 +10,8 @@ use Rattle.data_set_pairs.specs.StaysLaw.{stays_none}
 use Rattle.data_set_pairs.specs.Table.{HasPlace, IsFront, IsTable, pages_of, places_of}
 use Rattle.data_set_pairs.specs.Volume.{IsLaidOut}
 use Rattle.data_set_pairs.specs.Shelf.{blocks_at}
-use Rattle.data_set_pairs.specs.ShelfLaw.{few_pages}
+use Rattle.data_set_pairs.specs.ShelfLaw.{few_pages, free_stays}
+use Rattle.data_set_pairs.proofs.FreeSteps.{free_taken}
 use Rattle.data_set_pairs.specs.Kept.{last_states, last_pages, last_free}
 use Rattle.data_set_pairs.proofs.Staged.{table_counted, laid_counted, control_staged}
 use Rattle.data_set_pairs.proofs.Keeping.{fails_done, fails_page, is_done, not_failed, pages_kept, free_kept, table_moved, laid_moved, standing_same}
@@ -96,12 +97,16 @@ returns-clause-leaves g c =
 pub returns-clause-keeps : goal.returns-clause-keeps
 returns-clause-keeps g c =
     let v = c.args.self.now in
+    let least : (reverse v.table.free.items) ≡ c.in-Some.block ∷ reverse (take (length v.table.free.items - 1) v.table.free.items) = c.in-Some.ensures.some in
+    let taken : c.add.new.self.free.items ≡ take (length v.table.free.items - 1) v.table.free.items = c.add.ensures.free ∙ ap (λ (l : List ℕ). take (length l - 1) l) c.make_room.ensures.free in
+    let rest : (reverse v.table.free.items) ≡ c.in-Some.block ∷ reverse c.add.new.self.free.items = least ∙ ap (λ (l : List ℕ). c.in-Some.block ∷ reverse l) (sym taken) in
     let there = not_failed c.make_room.result c.is_err.result c.is_err.ensures.value c.if-is_err.false c.make_room.ensures.there in
     let last_p : last_pages c.make_room.new.kept c.add.new.self ≡ (last_pages v.kept_table v.table) = pages_kept c.make_room.new.kept c.add.new.self c.make_room.new.table there ∙ c.make_room.ensures.last_pages in
     let last_f : last_free c.make_room.new.kept c.add.new.self ≡ (last_free v.kept_table v.table) = free_kept c.make_room.new.kept c.add.new.self c.make_room.new.table there ∙ c.make_room.ensures.last_free in
     let from = (least_within v.control (g.B.Blocks.seen v.blocks).number v.table.pages.items (reverse v.table.free.items) (reverse (take (length v.table.free.items - 1) v.table.free.items)) c.in-Some.block v.in_table c.in-Some.ensures.some).from in
     record {
-      is_steady = (record { is_steady = c.stage.ensures.leaves.1; same = c.stage.ensures.leaves.0; faults = c.stage.ensures.faults.later }, standing_same v.indexes v.control v.states.items (last_states v.kept_states v.states) (last_pages v.kept_table v.table) (last_pages c.make_room.new.kept c.add.new.self) (last_free v.kept_table v.table) (last_free c.make_room.new.kept c.add.new.self) last_p last_f, control_staged v.control c.in-Some.block (g.B.Blocks.seen v.blocks).list (g.B.Blocks.seen c.stage.new.self).list c.empty_page.result from (is_done c.stage.result c.in_default-stage.not-Err c.stage.ensures.list));
+      is_steady = (record { is_steady = c.stage.ensures.leaves.1; same = c.stage.ensures.leaves.0; faults = c.stage.ensures.faults.later }, standing_same v.indexes v.control v.states.items (last_states v.kept_states v.states) (last_pages v.kept_table v.table) (last_pages c.make_room.new.kept c.add.new.self) (last_free v.kept_table v.table) (last_free c.make_room.new.kept c.add.new.self) last_p last_f, control_staged v.control c.in-Some.block (g.B.Blocks.seen v.blocks).list (g.B.Blocks.seen c.stage.new.self).list c.empty_page.result from (is_done c.stage.result c.in_default-stage.not-Err c.stage.ensures.list),
+          free_taken v.control c.in-Some.block (reverse v.table.free.items) (reverse c.add.new.self.free.items) (g.B.Blocks.seen v.blocks).list (g.B.Blocks.seen c.stage.new.self).list c.empty_page.result rest v.in_table.rise (is_done c.stage.result c.in_default-stage.not-Err c.stage.ensures.list));
       takes = λ set kind. refl;
       faults = fails_done c.stage.result Failed c.count_of-page.result page.Failed c.in_default-stage.not-Err c.stage.ensures.faults;
       fetches = c.stage.ensures.leaves.0.fetches;
@@ -124,7 +129,7 @@ pub returns-in-Err-clause-keeps : goal.returns-in-Err-clause-keeps
 returns-in-Err-clause-keeps g c =
     let v = c.args.self.now in
     record {
-      is_steady = (record { is_steady = c.stage.ensures.leaves.1; same = c.stage.ensures.leaves.0; faults = c.stage.ensures.faults.later }, standing_same v.indexes v.control v.states.items (last_states v.kept_states v.states) (last_pages v.kept_table v.table) (last_pages c.make_room.new.kept c.make_room.new.table) (last_free v.kept_table v.table) (last_free c.make_room.new.kept c.make_room.new.table) c.make_room.ensures.last_pages c.make_room.ensures.last_free, ap (option_map (take v.control)) c.in-Err.ensures.unchanged.0);
+      is_steady = (record { is_steady = c.stage.ensures.leaves.1; same = c.stage.ensures.leaves.0; faults = c.stage.ensures.faults.later }, standing_same v.indexes v.control v.states.items (last_states v.kept_states v.states) (last_pages v.kept_table v.table) (last_pages c.make_room.new.kept c.make_room.new.table) (last_free v.kept_table v.table) (last_free c.make_room.new.kept c.make_room.new.table) c.make_room.ensures.last_pages c.make_room.ensures.last_free, ap (option_map (take v.control)) c.in-Err.ensures.unchanged.0, free_stays (reverse v.table.free.items) (reverse c.make_room.new.table.free.items) (g.B.Blocks.seen v.blocks).list (g.B.Blocks.seen c.stage.new.self).list (ap (λ (l : List ℕ). reverse l) c.make_room.ensures.free) c.in-Err.ensures.unchanged.0);
       takes = λ set kind. refl;
       faults = fails_page c.stage.result c.in-Err.fault c.from.result c.in-Err.is c.from.ensures c.stage.ensures.faults;
       fetches = c.stage.ensures.leaves.0.fetches;
@@ -143,7 +148,7 @@ pub returns-then-is_err-clause-keeps : goal.returns-then-is_err-clause-keeps
 returns-then-is_err-clause-keeps g c =
     let v = c.args.self.now in
     record {
-      is_steady = (stays_none (g.B.Blocks.seen v.blocks) (g.met.B.Blocks.steady_none v.blocks), standing_same v.indexes v.control v.states.items (last_states v.kept_states v.states) (last_pages v.kept_table v.table) (last_pages c.make_room.new.kept c.make_room.new.table) (last_free v.kept_table v.table) (last_free c.make_room.new.kept c.make_room.new.table) c.make_room.ensures.last_pages c.make_room.ensures.last_free, refl);
+      is_steady = (stays_none (g.B.Blocks.seen v.blocks) (g.met.B.Blocks.steady_none v.blocks), standing_same v.indexes v.control v.states.items (last_states v.kept_states v.states) (last_pages v.kept_table v.table) (last_pages c.make_room.new.kept c.make_room.new.table) (last_free v.kept_table v.table) (last_free c.make_room.new.kept c.make_room.new.table) c.make_room.ensures.last_pages c.make_room.ensures.last_free, refl, free_stays (reverse v.table.free.items) (reverse c.make_room.new.table.free.items) (g.B.Blocks.seen v.blocks).list (g.B.Blocks.seen v.blocks).list (ap (λ (l : List ℕ). reverse l) c.make_room.ensures.free) refl);
       takes = λ set kind. refl;
       faults = record { later = omega arith; cause = λ is. absurd (wrong is); alive = λ _. c.requires.live; dead = λ is. absurd (wrong is) };
       fetches = omega arith;

@@ -5,7 +5,9 @@ use Rattle.data_set_pairs.specs.declared.place.PagePlace.{PagePlace}
 use Rattle.data_set_pairs.specs.Table.{places_of}
 use Rattle.data_set_pairs.specs.Shelf.{blocks_at}
 use Rattle.data_set_pairs.specs.Kept.{last_states, last_pages, last_free}
-use Rattle.data_set_pairs.proofs.Staged.{done_or_not, staged_untold, place_number, table_counted, laid_counted, Staging, laid_staged, page_staged, others_staged, control_staged}
+use Rattle.data_set_pairs.proofs.Staged.{done_or_not, staged_untold, place_number, table_counted, laid_counted, Staging, laid_staged, not_free, page_staged, others_staged, control_staged}
+use Rattle.data_set_pairs.specs.ShelfLaw.{free_stays}
+use Rattle.data_set_pairs.proofs.FreeSteps.{free_staged}
 use Rattle.data_set_pairs.proofs.shelf.VolumeShelf.stage_page.Goals as goal
 
 pub stage-requires-clause-below : goal.stage-requires-clause-below
@@ -50,7 +52,8 @@ returns-clause-leaves g c =
     let from = (place_number v.control (g.B.Blocks.seen v.blocks).number v.table.pages.items (reverse v.table.free.items) c.args.set c.args.n c.block_at-block.result v.in_table (subst (λ (l : List PagePlace). slice_get (places_of c.args.set l) c.args.n ≡ Some c.block_at-block.result) c.deref.ensures.value c.block_at-block.ensures)).from in
     record {
       keeps = record {
-        is_steady = (record { is_steady = c.stage.ensures.leaves.1; same = c.stage.ensures.leaves.0; faults = c.stage.ensures.faults.later }, refl, ⊎_elim (λ done. control_staged v.control c.block_at-block.result (g.B.Blocks.seen v.blocks).list (g.B.Blocks.seen c.stage.new.self).list c.args.from.now from done) (λ kept. ap (option_map (take v.control)) kept) (done_or_not c.stage.result c.stage.ensures.list (on_err_weaker c.stage.result (λ kept. kept.0) c.stage.ensures.unchanged)));
+        is_steady = (record { is_steady = c.stage.ensures.leaves.1; same = c.stage.ensures.leaves.0; faults = c.stage.ensures.faults.later }, refl, ⊎_elim (λ done. control_staged v.control c.block_at-block.result (g.B.Blocks.seen v.blocks).list (g.B.Blocks.seen c.stage.new.self).list c.args.from.now from done) (λ kept. ap (option_map (take v.control)) kept) (done_or_not c.stage.result c.stage.ensures.list (on_err_weaker c.stage.result (λ kept. kept.0) c.stage.ensures.unchanged)),
+            ⊎_elim (λ done. free_staged (reverse v.table.free.items) (g.B.Blocks.seen v.blocks).list (g.B.Blocks.seen c.stage.new.self).list c.block_at-block.result c.args.from.now done (not_free v.indexes v.control (g.B.Blocks.seen v.blocks).number v.states.items v.table.pages.items (reverse v.table.free.items) (g.B.Blocks.seen v.blocks).list c.args.set c.args.n c.block_at-block.result c.args.from.now context)) (λ kept. free_stays (reverse v.table.free.items) (reverse v.table.free.items) (g.B.Blocks.seen v.blocks).list (g.B.Blocks.seen c.stage.new.self).list refl kept) (done_or_not c.stage.result c.stage.ensures.list (on_err_weaker c.stage.result (λ kept. kept.0) c.stage.ensures.unchanged)));
         takes = λ set kind. refl;
         faults = c.stage.ensures.faults;
         fetches = c.stage.ensures.leaves.0.fetches;
