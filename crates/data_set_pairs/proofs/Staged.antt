@@ -1,5 +1,5 @@
 -- What a fetch and a stage of a page's block come to for the volume.
-use Rattle.std.proofs.Common.{◌≡◌, ◌∙◌, ◌==◌, Bool, true, false, inl, inr, ℕ, ◌-◌, ◌*◌, ◌≤◌, List, [], length, take, drop, get_or, Option, None, Some, Ok, Err, Result, slice_get, slice_set, refl, sym, ap, subst, arith}
+use Rattle.std.proofs.Common.{◌≡◌, ◌∙◌, ◌==◌, Bool, true, false, inl, inr, ℕ, ◌-◌, ◌*◌, ◌<◌, ◌≤◌, List, [], length, take, drop, get_or, Option, None, Some, Ok, Err, Result, slice_get, slice_set, refl, sym, ap, subst, arith}
 use Rattle.std.specs.Prelude.{◌⊎◌, IfSome, OnOk, OnErr}
 use Rattle.std.specs.Option.{option_map}
 use Rattle.std.specs.List.{list_any}
@@ -121,3 +121,9 @@ not_free indexes control number states pages free told set n k x s list is = by 
     by true is =
         let one = free_is states control k (drop control list) (subst (λ (l : List ℕ). list_any (λ m. m == k) l ≡ true) laid.table.left is) in
         absurd (true≢false (sym one.1 ∙ ap (is_free states) (data_at list control k one.0) ∙ taken))
+
+-- a control block is staged: no page changes
+pub row_staged : (control number : ℕ) (pages : List PagePlace) (free : List ℕ) (told now : Option (List (List ℕ))) (set : SetId) (k : ℕ) (x : List ℕ) → IsTable control number pages free → k < control → now ≡ option_map (λ list. slice_set list k x) told → option_map (blocks_at (places_of set pages)) now ≡ option_map (blocks_at (places_of set pages)) told
+row_staged control number pages free None now set k x table low staged = ap (option_map (blocks_at (places_of set pages))) staged
+row_staged control number pages free (Some list) now set k x table low staged =
+    ap (option_map (blocks_at (places_of set pages))) staged ∙ ap Some (untouched (places_of set pages) list k x (λ m at. omega (arith, low, (place_number control number pages free set m k table at).from)))

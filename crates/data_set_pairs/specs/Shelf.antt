@@ -1,11 +1,15 @@
 -- A volume as a shelf of pages.
-use Rattle.std.specs.Prelude.{◌≡◌, ℕ, Bool, ◌&&◌, ◌==◌, nat_lt, not, if◌then◌else◌, List, [], map, take, slice_index_or, Option, IsTrue}
+use Rattle.std.specs.Prelude.{◌≡◌, ℕ, Bool, ◌&&◌, ◌==◌, nat_lt, not, if◌then◌else◌, List, [], map, take, reverse, slice_index_or, Option, IsTrue}
 use Rattle.std.specs.List.{list_any}
 use Rattle.std.specs.Option.{option_map}
 use Rattle.hal_base.specs.declared.pages.SetId.{SetId}
 use Rattle.hal_base.specs.declared.place.PartState.{PartState}
 use Rattle.volume_image.specs.Header.{has_cells, is_left, is_live_set}
+use Rattle.hal_base.specs.ShelfCalls.{ShelfView}
+use Rattle.hal_base.specs.StoreCalls.{StoreView}
 use Rattle.data_set_pairs.specs.declared.place.PagePlace.{PagePlace}
+use Rattle.data_set_pairs.specs.declared.table.Table.{Table}
+use Rattle.data_set_pairs.specs.Table.{places_of}
 
 -- the blocks at these places
 abbrev pub blocks_at : List ℕ → List (List ℕ) → List (List ℕ)
@@ -19,6 +23,18 @@ kind_fits set kind = if has_cells set.letter && nat_lt set.part 32768 then kind 
 -- a block of this data set and kind isn't free, is of a data set that stands, and of the kind that fits it
 abbrev pub takes : ℕ → List PartState → SetId → ℕ → Bool
 takes indexes states set kind = not (is_left states set) && is_live_set indexes states kind set && kind_fits set kind
+
+-- what is seen of a volume as a shelf
+abbrev pub view : ℕ → List PartState → Table → StoreView → ShelfView
+view indexes states table blocks = record {
+  pages = λ set. option_map (blocks_at (places_of set table.pages.items)) blocks.list;
+  places = λ set. places_of set table.pages.items;
+  free = reverse table.free.items;
+  takes = takes indexes states;
+  disk_faults = blocks.disk_faults;
+  fetches = blocks.fetches;
+  live = blocks.live;
+}
 
 -- what a volume holds that no change of a page changes: the states, and the states and the table of the last commit
 pub record Standing : Type 0 where

@@ -1,5 +1,5 @@
 // A partition's state, changed.
-ghost use Rattle.std.specs.Prelude.{◌≡◌, ◌+◌, ◌*◌, ◌/◌, ◌%◌, ◌<◌, ◌≤◌, ℕ, List, [], length, reverse, drop, slice_index_or, slice_set, IfOk, IfSome, IfNone, OnOk, OnErr, IsErrOf, IsTrue, ◌↔◌};
+ghost use Rattle.std.specs.Prelude.{◌≡◌, ◌+◌, ◌*◌, ◌/◌, ◌%◌, ◌<◌, ◌≤◌, ℕ, List, [], length, reverse, drop, slice_index_or, slice_set, IfOk, IfSome, IfNone, OnOk, OnErr, IsErrOf, IsTrue, ◌↔◌, None};
 ghost use Rattle.std.specs.Option.{option_map};
 ghost use Rattle.hal_base.specs.Fault.{HasCauseFor, Rose};
 ghost use Rattle.volume_image.specs.Control.{control_row, cursor_bytes};
@@ -81,6 +81,7 @@ fn table_under<B: Blocks>(
     requires live { IsTrue (B.seen blocks.old).live }
     requires number { control ≤ (B.seen blocks.old).number }
     ensures same { IfOk result (λ table. IfNone table ((state.now.part ≡ old.now.part) × (state.now.number ≡ old.now.number))) }
+    ensures none { IfOk result (λ table. (state.now.part ≡ old.now.part) × (state.now.number ≡ old.now.number) → table ≡ None) }
     ensures table { IfOk result (λ table. IfSome table (λ t. IsTable control (B.seen blocks.old).number t.pages.items (reverse t.free.items))) }
     ensures stands { IfOk result (λ table. IfSome table (λ t. IfSome (B.seen blocks.old).list (TableStands indexes changed.now.items control t.pages.items (reverse t.free.items)))) }
     ensures looks { Looks (B.steady blocks.old blocks.new) (B.seen blocks.old) (B.seen blocks.new) }
@@ -113,6 +114,7 @@ pub(crate) fn plan<B: Blocks>(
     requires short { length (cursor_bytes state.now.cursor) ≤ 120 }
     ensures states { IfOk result (λ change. change.states.items ≡ slice_set states.now.items place state.now) }
     ensures same { IfOk result (λ change. IfNone change.table (KeepsNumber states.now.items place state.now)) }
+    ensures none { IfOk result (λ change. KeepsNumber states.now.items place state.now → change.table ≡ None) }
     ensures table { IfOk result (λ change. IfSome change.table (λ t. IsTable control (B.seen blocks.old).number t.pages.items (reverse t.free.items))) }
     ensures stands { IfOk result (λ change. IfSome change.table (λ t. IfSome (B.seen blocks.old).list (TableStands indexes change.states.items control t.pages.items (reverse t.free.items)))) }
     ensures block { IfOk result (λ change. IfSome (B.seen blocks.old).list (λ list. change.block ≡ with_row (place % 32) (control_row state.now) (slice_index_or list (place / 32) []))) }

@@ -6,7 +6,9 @@ ghost use Rattle.volume_image.specs.Control.{control_row, cursor_bytes};
 ghost use Rattle.data_set_pairs.specs.Stays.{Stays};
 ghost use Rattle.data_set_pairs.specs.Image.{are_known, AreNumbered};
 ghost use Rattle.data_set_pairs.specs.Kept.{held, last_held};
-ghost use Rattle.data_set_pairs.specs.Row.{with_row};
+ghost use Rattle.data_set_pairs.specs.Row.{with_row, KeepsNumber};
+ghost use Rattle.data_set_pairs.specs.Shelf.{view};
+ghost use Rattle.hal_base.specs.ShelfCalls.{SameShelf};
 
 use crate::Volume;
 use crate::change::{Change, plan};
@@ -28,6 +30,7 @@ impl<B: Blocks> Volume<B> {
         ensures row { OnOk result ((B.seen self.new.blocks).list ≡ option_map (λ list. slice_set list (place / 32) (with_row (place % 32) (control_row state.now) (slice_index_or list (place / 32) []))) (B.seen self.old.blocks).list) }
         ensures states { OnOk result (self.new.states.items ≡ slice_set self.old.states.items place state.now) }
         ensures of { (self.new.control ≡ self.old.control) × (self.new.indexes ≡ self.old.indexes) }
+        ensures same { OnOk result (KeepsNumber self.old.states.items place state.now → SameShelf (view self.old.indexes self.old.states.items self.old.table (B.seen self.old.blocks)) (view self.new.indexes self.new.states.items self.new.table (B.seen self.new.blocks))) }
         ensures unchanged { OnErr result ((B.seen self.new.blocks).list ≡ (B.seen self.old.blocks).list) }
         ensures held { OnErr result (held self.new.control self.new.indexes self.new.states self.new.table ≡ held self.old.control self.old.indexes self.old.states self.old.table) }
         ensures kept { last_held self.new.control self.new.indexes self.new.kept_states self.new.states self.new.kept_table self.new.table ≡ last_held self.old.control self.old.indexes self.old.kept_states self.old.states self.old.kept_table self.old.table }

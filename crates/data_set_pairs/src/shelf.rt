@@ -5,7 +5,7 @@ ghost use Rattle.std.proofs.Common.{◌∙◌, ap, refl};
 ghost use Rattle.data_set_pairs.specs.Stays.{Stays};
 ghost use Rattle.data_set_pairs.specs.Table.{places_of};
 ghost use Rattle.data_set_pairs.specs.Kept.{last_states, last_pages, last_free};
-ghost use Rattle.data_set_pairs.specs.Shelf.{blocks_at, kind_fits, takes, standing, Standing, SameControl, FreeStays};
+ghost use Rattle.data_set_pairs.specs.Shelf.{blocks_at, kind_fits, takes, standing, Standing, SameControl, FreeStays, view};
 ghost use Rattle.data_set_pairs.specs.ShelfLaw.{control_then, few_pages, free_stays, free_then, free_rise, pages_fit, untold_alike};
 ghost use Rattle.data_set_pairs.specs.StaysLaw.{stays_none, stays_then};
 
@@ -45,7 +45,7 @@ impl<B: Blocks> Live for Volume<B> {
 }
 
 impl<B: Blocks> Shelf for Volume<B> {
-    ghost seen = { λ v. record { pages = λ set. option_map (blocks_at (places_of set v.table.pages.items)) (B.seen v.blocks).list; places = λ set. places_of set v.table.pages.items; free = reverse v.table.free.items; takes = takes v.indexes v.states.items; disk_faults = (B.seen v.blocks).disk_faults; fetches = (B.seen v.blocks).fetches; live = (B.seen v.blocks).live } };
+    ghost seen = { λ v. view v.indexes v.states.items v.table (B.seen v.blocks) };
 
     ghost steady = { λ a b. Stays (B.steady a.blocks b.blocks) (B.seen a.blocks) (B.seen b.blocks) × (standing b.indexes b.control b.states.items (last_states b.kept_states b.states) (last_pages b.kept_table b.table) (last_free b.kept_table b.table) ≡ standing a.indexes a.control a.states.items (last_states a.kept_states a.states) (last_pages a.kept_table a.table) (last_free a.kept_table a.table)) × SameControl a.control (B.seen a.blocks).list (B.seen b.blocks).list × FreeStays (reverse a.table.free.items) (reverse b.table.free.items) (B.seen a.blocks).list (B.seen b.blocks).list };
 

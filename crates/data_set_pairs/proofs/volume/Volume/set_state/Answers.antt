@@ -4,7 +4,12 @@ use Rattle.std.proofs.lemmas.List.{length-set}
 use Rattle.hal_base.specs.declared.place.PartState.{PartState}
 use Rattle.data_set_pairs.specs.Volume.{IsLaidOut}
 use Rattle.data_set_pairs.specs.Kept.{last_states, last_pages, last_free}
-use Rattle.data_set_pairs.proofs.Staged.{table_counted, laid_counted}
+use Rattle.data_set_pairs.proofs.Staged.{table_counted, laid_counted, row_staged}
+use Rattle.data_set_pairs.specs.declared.place.PagePlace.{PagePlace}
+use Rattle.data_set_pairs.specs.Table.{places_of}
+use Rattle.data_set_pairs.specs.Shelf.{blocks_at}
+use Rattle.data_set_pairs.specs.Stays.{Stays}
+use Rattle.data_set_pairs.specs.StaysLaw.{stays_then}
 use Rattle.data_set_pairs.proofs.Keeping.{is_done, table_moved, laid_moved}
 use Rattle.data_set_pairs.proofs.RowSet.{Setting, laid_set}
 use Rattle.data_set_pairs.proofs.SameNumber.{table_left, stands_left}
@@ -30,4 +35,24 @@ invariant_of-self-2 g c =
       as_many = omega (arith, ap length c.put_states.ensures.kept, v.as_many, many);
       kept_in_table = table_moved v.control (g.B.Blocks.seen c.stage.new.self).number (last_pages v.kept_table v.table) (last_pages c.put_table.new.kept c.put_table.new.table) (last_free v.kept_table v.table) (last_free c.put_table.new.kept c.put_table.new.table) c.put_table.ensures.last_pages c.put_table.ensures.last_free (table_counted v.control (g.B.Blocks.seen c.stage.new.self).number (g.B.Blocks.seen v.blocks).number (last_pages v.kept_table v.table) (reverse (last_free v.kept_table v.table)) number v.kept_in_table);
       kept_laid = λ live list is. subst (λ (l : List PartState). IsLaidOut v.indexes v.control (g.B.Blocks.seen c.stage.new.self).number l (last_pages c.put_table.new.kept c.put_table.new.table) (reverse (last_free c.put_table.new.kept c.put_table.new.table)) list) (sym c.put_states.ensures.kept) (laid_moved v.indexes v.control (g.B.Blocks.seen c.stage.new.self).number (last_states v.kept_states v.states) (last_pages v.kept_table v.table) (last_pages c.put_table.new.kept c.put_table.new.table) (last_free v.kept_table v.table) (last_free c.put_table.new.kept c.put_table.new.table) list c.put_table.ensures.last_pages c.put_table.ensures.last_free (laid_counted v.indexes v.control (g.B.Blocks.seen c.stage.new.self).number (g.B.Blocks.seen v.blocks).number (last_states v.kept_states v.states) (last_pages v.kept_table v.table) (reverse (last_free v.kept_table v.table)) list number (v.kept_laid c.requires.live list (sym (c.stage.ensures.leaves.0.committed ∙ c.in-Ok.ensures.looks.stays.same.committed) ∙ is))));
+    }
+
+pub returns-clause-stays : goal.returns-clause-stays
+returns-clause-stays g c =
+    let second : Stays (g.B.Blocks.steady c.plan-planned.new.blocks c.stage.new.self) (g.B.Blocks.seen c.plan-planned.new.blocks) (g.B.Blocks.seen c.stage.new.self) = record { is_steady = c.stage.ensures.leaves.1; same = c.stage.ensures.leaves.0; faults = c.stage.ensures.faults.later } in
+    stays_then c.in-Ok.ensures.looks.stays second (g.met.B.Blocks.steady_then c.args.self.now.blocks c.plan-planned.new.blocks c.stage.new.self)
+
+pub returns-clause-same : goal.returns-clause-same
+returns-clause-same g c = λ keeps.
+    let v = c.args.self.now in
+    let few : length v.states.items ≤ 32 * v.control = omega (arith, v.control_is) in
+    let none = c.in-Ok.ensures.none keeps in
+    let pages : c.put_table.new.table.pages.items ≡ v.table.pages.items = c.put_table.ensures.pages ∙ ap (λ o. last_pages o v.table) none in
+    let free : c.put_table.new.table.free.items ≡ v.table.free.items = c.put_table.ensures.free ∙ ap (λ o. last_free o v.table) none in
+    let staged : (g.B.Blocks.seen c.stage.new.self).list ≡ option_map (λ list. slice_set list (c.args.place / 32) c.in-Ok.change.block) (g.B.Blocks.seen v.blocks).list =
+    is_done c.stage.result c.in_default.not-Err c.stage.ensures.list ∙ ap (λ (n : ℕ). option_map (λ (list : List (List ℕ)). slice_set list n c.in-Ok.change.block) (g.B.Blocks.seen c.plan-planned.new.blocks).list) c.from-number.ensures ∙ ap (option_map (λ (list : List (List ℕ)). slice_set list (c.args.place / 32) c.in-Ok.change.block)) c.in-Ok.ensures.looks.list in
+    record {
+      pages = λ set. ap (λ (l : List PagePlace). option_map (blocks_at (places_of set l)) (g.B.Blocks.seen c.stage.new.self).list) pages ∙ row_staged v.control (g.B.Blocks.seen v.blocks).number v.table.pages.items (reverse v.table.free.items) (g.B.Blocks.seen v.blocks).list (g.B.Blocks.seen c.stage.new.self).list set (c.args.place / 32) c.in-Ok.change.block v.in_table (omega (arith, c.requires.place, few)) staged;
+      places = λ set. ap (places_of set) pages;
+      free = ap (λ (l : List ℕ). reverse l) free;
     }
