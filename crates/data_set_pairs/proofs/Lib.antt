@@ -16,3 +16,4 @@ pub mod RowSet
 pub mod Standing
 pub mod SameNumber
 pub mod Staged
+pub mod Coverage

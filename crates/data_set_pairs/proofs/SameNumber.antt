@@ -64,7 +64,7 @@ count_bound indexes states n (block ∷ blocks) = by (is_free states block) (is_
     by false true e g h = omega (arith, h)
     by false false e g h = omega (arith, h)
 
-abbrev is_known : ℕ → List PartState → List ℕ → Bool
+abbrev pub is_known : ℕ → List PartState → List ℕ → Bool
 is_known indexes states block = is_free states block || is_taken indexes states block
 
 all_known : (indexes : ℕ) (states : List PartState) (n : ℕ) (blocks : List (List ℕ)) → length (taken_pages indexes states n blocks) + length (free_blocks states n blocks) ≡ length blocks → list_all (is_known indexes states) blocks ≡ true
@@ -115,6 +115,12 @@ all_pass [] = refl
 all_pass (x ∷ xs) = ap suc (all_pass xs)
 
 -- ---- the table
+
+pub known_all : (indexes control number : ℕ) (states : List PartState) (pages : List PagePlace) (free : List ℕ) (list : List (List ℕ)) → IsTable control number pages free → IsLaidOut indexes control number states pages free list → list_all (is_known indexes states) (drop control list) ≡ true
+known_all indexes control number states pages free list table laid =
+    let blocks = drop control list in
+    let as_many : length pages ≡ length (taken_pages indexes states control blocks) = sym (all_pass pages) ∙ laid.table.taken (λ _. true) ∙ all_pass (taken_pages indexes states control blocks) in
+    all_known indexes states control blocks (omega (arith, as_many, ap length laid.table.left, length-drop control list, laid.many, table.every))
 
 pub same_stands : (indexes control number : ℕ) (states : List PartState) (place : ℕ) (s : PartState) (pages : List PagePlace) (free : List ℕ) (list : List (List ℕ)) → KeepsNumber states place s → length list ≡ number
     → length pages + length free + control ≡ number → IsTrue (are_known indexes (slice_set states place s) (drop control list)) → TableStands indexes states control pages free list → TableStands indexes (slice_set states place s) control pages free list

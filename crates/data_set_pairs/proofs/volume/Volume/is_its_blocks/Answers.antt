@@ -1,4 +1,5 @@
 use Rattle.std.proofs.Common.{reverse}
+use Rattle.data_set_pairs.proofs.Coverage.{its_page, quiet_pages}
 use Rattle.data_set_pairs.proofs.Heads.{place_page}
 use Rattle.data_set_pairs.proofs.Standing.{if_told, quiet_known, numbered_known, counted_known}
 use Rattle.data_set_pairs.proofs.volume.Volume.is_its_blocks.Goals as goal
@@ -12,8 +13,11 @@ returns-clause-rest g c = let v = c.args.self.now in if_told (g.B.Blocks.seen v.
 pub returns-clause-pages : goal.returns-clause-pages
 returns-clause-pages g c = let v = c.args.self.now in if_told (g.B.Blocks.seen v.blocks).list (λ list is set n block at. place_page v.indexes v.states.items v.control v.table.pages.items (reverse v.table.free.items) list set n block (v.laid list is).table v.in_table.run at)
 
+pub returns-clause-each : goal.returns-clause-each
+returns-clause-each g c = let v = c.args.self.now in if_told (g.B.Blocks.seen v.blocks).list (λ list is block low high held. its_page v.indexes v.control (g.B.Blocks.seen v.blocks).number v.states.items v.table.pages.items (reverse v.table.free.items) list block v.in_table (v.laid list is) low high held)
+
 pub returns-clause-known : goal.returns-clause-known
-returns-clause-known g c = let v = c.args.self.now in if_told (g.B.Blocks.seen v.blocks).list (λ list is quiet. quiet_known v.indexes v.control (g.B.Blocks.seen v.blocks).number v.states.items v.table.pages.items (reverse v.table.free.items) list v.in_table (v.laid list is) quiet)
+returns-clause-known g c = let v = c.args.self.now in if_told (g.B.Blocks.seen v.blocks).list (λ list is quiet. quiet_known v.indexes v.control (g.B.Blocks.seen v.blocks).number v.states.items v.table.pages.items (reverse v.table.free.items) list v.in_table (v.laid list is) (quiet_pages v.indexes v.control (g.B.Blocks.seen v.blocks).number v.states.items v.table.pages.items (reverse v.table.free.items) list v.in_table (v.laid list is) quiet))
 
 pub returns-clause-numbered : goal.returns-clause-numbered
 returns-clause-numbered g c = let v = c.args.self.now in if_told (g.B.Blocks.seen v.blocks).list (λ list is known. numbered_known v.indexes v.control (g.B.Blocks.seen v.blocks).number v.states.items v.table.pages.items (reverse v.table.free.items) list v.in_table (v.laid list is) known)
