@@ -17,3 +17,4 @@ pub mod Standing
 pub mod SameNumber
 pub mod Staged
 pub mod Coverage
+pub mod Stepping

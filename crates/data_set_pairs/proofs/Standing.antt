@@ -18,6 +18,10 @@ pub if_told : {P : List (List ℕ) → Type 0} (told : Option (List (List ℕ)))
 if_told None each = tt
 if_told (Some list) each = each list refl
 
+pub told_then : {P Q : List (List ℕ) → Type 0} (told : Option (List (List ℕ))) → IfSome told P → ((list : List (List ℕ)) → told ≡ Some list → P list → Q list) → IfSome told Q
+told_then None is each = tt
+told_then (Some list) is each = each list refl is
+
 -- each data block is free or taken, since all are counted
 counts_if : (f t : Bool) (n : ℕ) (ns : List ℕ) (p : PagePlace) (ps : List PagePlace) (k : ℕ) → (f ≡ true → t ≡ false) → length ps + length ns ≤ k → length (cond t (p ∷ ps) ps) + length (cond f (n ∷ ns) ns) ≤ suc k
 counts_if true true n ns p ps k never le = absurd (true≢false (never refl))

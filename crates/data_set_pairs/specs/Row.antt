@@ -1,5 +1,6 @@
 -- A control block with one of its rows written.
 use Rattle.std.specs.Prelude.{◌≡◌, ℕ, ◌+◌, ◌*◌, List, ◌++◌, take, drop, Some}
+use Rattle.volume_image.specs.Header.{other_side}
 use Rattle.std.specs.List.{slice_get}
 use Rattle.hal_base.specs.declared.place.PartState.{PartState}
 
@@ -12,3 +13,21 @@ pub record KeepsNumber (states : List PartState) (place : ℕ) (s : PartState) :
   pub is : slice_get states place ≡ Some old
   pub part : s.part ≡ old.part
   pub number : s.number ≡ old.number
+
+-- a reorganization is begun, goes on, pauses or is resumed: the number and the active side stay, and only an idle partition
+-- is idle
+pub record GoesOn (states : List PartState) (place : ℕ) (s : PartState) : Type 0 where
+  pub old : PartState
+  pub is : slice_get states place ≡ Some old
+  pub part : s.part ≡ old.part
+  pub number : s.number ≡ old.number
+  pub side : s.side ≡ old.side
+  pub idle : s.state ≡ 73 → old.state ≡ 73
+
+-- a reorganization ends: the next number, and the other side is the active one
+pub record Switches (states : List PartState) (place : ℕ) (s : PartState) : Type 0 where
+  pub old : PartState
+  pub is : slice_get states place ≡ Some old
+  pub part : s.part ≡ old.part
+  pub number : s.number ≡ old.number + 1
+  pub side : s.side ≡ other_side old.side

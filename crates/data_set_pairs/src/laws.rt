@@ -1,5 +1,5 @@
 // What a volume holds in memory, as facts of its blocks.
-ghost use Rattle.std.specs.Prelude.{◌≡◌, ◌*◌, ◌<◌, ◌≤◌, ℕ, List, [], Some, length, drop, replicate, slice_get, slice_index_or, All, false, IfSome, IsTrue};
+ghost use Rattle.std.specs.Prelude.{◌≡◌, ◌*◌, ◌<◌, ◌≤◌, ℕ, List, [], Some, length, drop, replicate, slice_get, slice_index_or, slice_set, All, false, IfSome, IsTrue};
 ghost use Rattle.hal_base.specs.declared.pages.SetId.{SetId};
 ghost use Rattle.hal_base.specs.declared.place.PartState.{PartState};
 ghost use Rattle.volume_image.specs.Control.{control_row, row_in};
@@ -8,9 +8,10 @@ ghost use Rattle.volume_image.specs.Pages.{set_blocks};
 ghost use Rattle.data_set_pairs.specs.Shelf.{blocks_at};
 ghost use Rattle.data_set_pairs.specs.Table.{places_of};
 ghost use Rattle.data_set_pairs.specs.Image.{are_known, AreNumbered, IsPage};
+ghost use Rattle.data_set_pairs.specs.Row.{GoesOn, Switches};
 
 use crate::Volume;
-use hal_base::Blocks;
+use hal_base::{Blocks, PartState};
 
 impl<B: Blocks> Volume<B> {
     /// Where the blocks are told: the control rows are those of the states, with zeros behind them; the block of each page
@@ -25,5 +26,22 @@ impl<B: Blocks> Volume<B> {
         ensures known { IfSome (B.seen self.now.blocks).list (λ list. ((set : SetId) → All (λ page. IsTrue (says_no_more page)) (blocks_at (places_of set self.now.table.pages.items) list)) → IsTrue (are_known self.now.indexes self.now.states.items (drop self.now.control list))) }
         ensures numbered { IfSome (B.seen self.now.blocks).list (λ list. IsTrue (are_known self.now.indexes self.now.states.items (drop self.now.control list)) → AreNumbered self.now.indexes self.now.states.items (drop self.now.control list)) }
         ensures counted { IfSome (B.seen self.now.blocks).list (λ list. IsTrue (are_known self.now.indexes self.now.states.items (drop self.now.control list)) → (set : SetId) → length (set_blocks self.now.indexes self.now.states.items set (drop self.now.control list)) ≡ length (places_of set self.now.table.pages.items)) }
+    {}
+
+    /// Where a reorganization begins, goes on, pauses or is resumed, the condition of `set_state` holds of the new state if
+    /// each data block is free or live now.
+    pub fn may_go_on(&self, place: u16, state: &PartState)
+        requires known { IfSome (B.seen self.now.blocks).list (λ list. IsTrue (are_known self.now.indexes self.now.states.items (drop self.now.control list))) }
+        requires goes_on { GoesOn self.now.states.items place state.now }
+        ensures known { IfSome (B.seen self.now.blocks).list (λ list. IsTrue (are_known self.now.indexes (slice_set self.now.states.items place state.now) (drop self.now.control list))) }
+        ensures numbered { IfSome (B.seen self.now.blocks).list (λ list. AreNumbered self.now.indexes (slice_set self.now.states.items place state.now) (drop self.now.control list)) }
+    {}
+
+    /// And so where a reorganization ends: what the old side holds is free, and the other side holds what it held.
+    pub fn may_switch(&self, place: u16, state: &PartState)
+        requires known { IfSome (B.seen self.now.blocks).list (λ list. IsTrue (are_known self.now.indexes self.now.states.items (drop self.now.control list))) }
+        requires switches { Switches self.now.states.items place state.now }
+        ensures known { IfSome (B.seen self.now.blocks).list (λ list. IsTrue (are_known self.now.indexes (slice_set self.now.states.items place state.now) (drop self.now.control list))) }
+        ensures numbered { IfSome (B.seen self.now.blocks).list (λ list. AreNumbered self.now.indexes (slice_set self.now.states.items place state.now) (drop self.now.control list)) }
     {}
 }
