@@ -1,11 +1,10 @@
 -- Each data block that isn't free is the page that its head names.
-use Rattle.std.proofs.Common.{◌≡◌, ◌∙◌, ℕ, zero, suc, ◌+◌, ◌-◌, ◌<◌, ◌≤◌, ◌==◌, Bool, true, false, ◌&&◌, ◌||◌, cond, List, [], ◌∷◌, length, length-drop, drop, get_or, Some, slice_get, refl, sym, ap, subst, arith}
+use Rattle.std.proofs.Common.{◌≡◌, ◌∙◌, ℕ, zero, suc, ◌+◌, ◌-◌, ◌<◌, ◌≤◌, ◌==◌, Bool, true, false, ◌&&◌, ◌||◌, cond, List, [], ◌∷◌, length, length-drop, drop, get_or, Some, slice_get, refl, sym, ap, arith}
 use Rattle.std.specs.Prelude.{All, filter}
 use Rattle.std.specs.List.{list_all, list_any}
 use Rattle.std.specs.Option.{option_map}
-use Rattle.std.proofs.lemmas.Bool.{and_parts, and_from, eq-eqb, eqb-true, false≢true, true≢false}
-use Rattle.std.proofs.lemmas.List.{length-map}
-use Rattle.std.proofs.lemmas.List.Folds.{Any-from_list_any, list_all_at}
+use Rattle.std.proofs.lemmas.Bool.{and_parts, and_from, eq-eqb, eqb-true}
+use Rattle.std.proofs.lemmas.List.Folds.{Any-from_list_any}
 use Rattle.std.proofs.lemmas.Option.{slice_get-map, slice_get-get_or, slice_get_within, get_or_from_slice_get}
 use Rattle.hal_base.specs.declared.pages.SetId.{SetId}
 use Rattle.hal_base.specs.declared.place.PartState.{PartState}
@@ -18,15 +17,7 @@ use Rattle.data_set_pairs.specs.Shelf.{blocks_at}
 use Rattle.data_set_pairs.specs.Volume.{IsLaidOut}
 use Rattle.data_set_pairs.proofs.TableSteps.{own_set}
 use Rattle.data_set_pairs.proofs.Numbering.{same_any}
-use Rattle.data_set_pairs.proofs.SameNumber.{is_known, known_all}
 use Rattle.data_set_pairs.proofs.Staging.{data_at}
-
-all_at : {X : Type 0} (p : X → Bool) (xs : List X) (k : ℕ) (d : X) → list_all p xs ≡ true → k < length xs → p (get_or xs k d) ≡ true
-all_at {X} p xs k d all lt = by (p (get_or xs k d)) refl
-  where
-    by : (b : Bool) → p (get_or xs k d) ≡ b → p (get_or xs k d) ≡ true
-    by true is = is
-    by false is = absurd (true≢false (sym all ∙ list_all_at p xs k d lt is))
 
 pub all_from : {X : Type 0} (p : X → Bool) (xs : List X) (d : X) → ((k : ℕ) → k < length xs → p (get_or xs k d) ≡ true) → list_all p xs ≡ true
 all_from p [] d each = refl
@@ -90,7 +81,7 @@ its_page indexes control number states pages free list k table laid low high hel
 
     taken : is_taken indexes states (get_or (drop control list) (k - control) []) ≡ true
     taken =
-        let known = all_at (is_known indexes states) (drop control list) (k - control) [] (known_all indexes control number states pages free list table laid) within in
+        let known = laid.table.held (k - control) [] within in
         sym (ap (λ (f : Bool). f || is_taken indexes states (get_or (drop control list) (k - control) [])) (ap (is_free states) at ∙ held)) ∙ known
 
     pass : test (page_at (control + (k - control)) (get_or (drop control list) (k - control) [])) ≡ true

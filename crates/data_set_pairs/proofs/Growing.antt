@@ -18,7 +18,7 @@ use Rattle.volume_image.specs.Header.{kind_in, set_in, page_in, is_free, is_left
 use Rattle.volume_image.specs.Pages.{same_set}
 use Rattle.data_set_pairs.specs.declared.place.PagePlace.{PagePlace}
 use Rattle.data_set_pairs.specs.Table.{HasPlace, IsBetween, IsFront, IsTable, RunFromZero, is_page_of, pages_of, places_of, set_rank}
-use Rattle.data_set_pairs.specs.Image.{is_taken, page_at, taken_pages, free_blocks, SamePages}
+use Rattle.data_set_pairs.specs.Image.{is_held, is_taken, page_at, taken_pages, free_blocks, SamePages}
 use Rattle.data_set_pairs.specs.Volume.{IsLaidOut}
 use Rattle.data_set_pairs.specs.Shelf.{blocks_at, takes, kind_fits}
 use Rattle.data_set_pairs.specs.ShelfLaw.{rise_weaker}
@@ -191,6 +191,10 @@ own_run pages set e run page n d lt = ⊎_elim (λ low. ap (λ (p : PagePlace). 
         let at : n ≡ length pages = omega (arith, high, lt, length-append pages (e ∷ [])) in
         ap (λ (i : ℕ). (get_or (pages ++ e ∷ []) i d).page) at ∙ ap (λ (p : PagePlace). p.page) (get_or-append_seam pages e [] d) ∙ page ∙ sym at
 
+or_right : (a b : Bool) → b ≡ true → (a || b) ≡ true
+or_right true b is = refl
+or_right false b is = is
+
 -- what is known of a volume that grows
 pub record Growing (indexes control number : ℕ) (states : List PartState) (pages : List PagePlace) (free rest : List ℕ) (told : Option (List (List ℕ))) (set : SetId) (n k end : ℕ) (x : List ℕ) : Type 0 where
   pub table : IsTable control number pages free
@@ -290,6 +294,7 @@ laid_grown indexes control number states pages free rest (Some old) now set n k 
       table = record {
         taken = pages_same;
         left = sym (ap (free_blocks states control) (data_set old control k x from) ∙ free_grown states control k rest (drop control old) x least (taken_not_free indexes states x s.new.taken));
+        held = subst (All (λ b. is_held indexes states b ≡ true)) (sym (data_set old control k x from)) (All-set (λ (b : List ℕ). is_held indexes states b ≡ true) (drop control old) (k - control) x (or_right (is_free states x) (is_taken indexes states x) s.new.taken) before.table.held);
       };
     }
 

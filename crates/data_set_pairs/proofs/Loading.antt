@@ -1,6 +1,6 @@
 -- What was read of a volume, against the rules.
 use Rattle.std.proofs.Common.{◌≡◌, ◌∙◌, ⊎_elim, ℕ, ◌*◌, Bool, true, false, List, length, drop, Option, None, Some, sym, ap, subst, arith}
-use Rattle.std.specs.Prelude.{IfSome, IsTrue, All}
+use Rattle.std.specs.Prelude.{IfSome, IsTrue}
 use Rattle.std.proofs.lemmas.Bool.{true≢false}
 use Rattle.hal_base.specs.declared.place.PartState.{PartState}
 use Rattle.hal_schema.specs.declared.schema.Schema.{Schema}

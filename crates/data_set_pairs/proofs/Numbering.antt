@@ -20,7 +20,7 @@ use Rattle.data_set_pairs.specs.Table.{set_rank, page_rank, is_page_of, pages_of
 use Rattle.data_set_pairs.specs.Image.{is_taken, page_at, taken_pages, are_known, AreNumbered, HasScanned, BreaksRule, SamePages, TableStands, free_blocks}
 use Rattle.data_set_pairs.proofs.TableSteps.{set_is}
 use Rattle.data_set_pairs.proofs.Covering.{Covers, own_place}
-use Rattle.data_set_pairs.proofs.ScanSteps.{taken_if_live, free_not_taken}
+use Rattle.data_set_pairs.proofs.ScanSteps.{taken_if_live, free_not_taken, known_held}
 use Rattle.data_set_pairs.proofs.ScanTable.{told_known, same_pages}
 
 -- a block that is free or live is live where it is taken
@@ -139,4 +139,5 @@ table_stands indexes states control number (Some list) pages sorted free scan sa
     record {
       taken = same_if_permuted (taken_pages indexes states control (drop control list)) sorted (same_pages indexes states control number (Some list) pages sorted free scan same (drop control list) (scan.scanned.taken ∙ ap (taken_pages indexes states control) (sym is)));
       left = scan.scanned.left ∙ ap (free_blocks states control) (sym is);
+      held = known_held indexes states (drop control list) (ap (are_known indexes states) is ∙ scan.scanned.known);
     }

@@ -1,6 +1,6 @@
 -- A control block whose row is written: that row is the state's, and each other row is as it was.
-use Rattle.std.proofs.Common.{◌≡◌, ◌≢◌, ◌∙◌, ⊎_elim, ℕ, ◌+◌, ◌-◌, ◌*◌, ◌/◌, ◌%◌, ◌<◌, ◌≤◌, List, [], ◌++◌, length, length-append, length-drop, take, drop, get_or, replicate, Option, None, Some, slice_get, slice_set, slice_range, refl, sym, ap, subst, arith}
-use Rattle.std.specs.Prelude.{◌⊎◌, IfSome}
+use Rattle.std.proofs.Common.{◌≡◌, ◌≢◌, ◌∙◌, true, ⊎_elim, ℕ, ◌+◌, ◌-◌, ◌*◌, ◌/◌, ◌%◌, ◌<◌, ◌≤◌, List, [], ◌++◌, length, length-append, length-drop, take, drop, get_or, replicate, Option, None, Some, slice_get, slice_set, slice_range, refl, sym, ap, subst, arith}
+use Rattle.std.specs.Prelude.{◌⊎◌, All, IfSome}
 use Rattle.std.proofs.Common.{inl, inr}
 use Rattle.std.specs.Option.{option_map}
 use Rattle.std.proofs.lemmas.Bool.{cases_lt}
@@ -11,7 +11,7 @@ use Rattle.hal_base.specs.declared.place.PartState.{PartState}
 use Rattle.volume_image.specs.Control.{control_row, cursor_bytes, row_in}
 use Rattle.data_set_pairs.specs.declared.place.PagePlace.{PagePlace}
 use Rattle.data_set_pairs.specs.Row.{with_row}
-use Rattle.data_set_pairs.specs.Image.{TableStands, taken_pages, free_blocks, SamePages}
+use Rattle.data_set_pairs.specs.Image.{TableStands, is_held, taken_pages, free_blocks, SamePages}
 use Rattle.data_set_pairs.specs.Volume.{IsLaidOut}
 
 pub length_row : (s : PartState) → length (cursor_bytes s.cursor) ≤ 120 → length (control_row s) ≡ 128
@@ -167,5 +167,6 @@ laid_set indexes control number states changed pages more free left (Some old) n
       table = record {
         taken = subst (λ (l : List (List ℕ)). SamePages (taken_pages indexes changed control l) more) (sym blocks_stay) t.stands.taken;
         left = t.stands.left ∙ ap (free_blocks changed control) (sym blocks_stay);
+        held = subst (All (λ b. is_held indexes changed b ≡ true)) (sym blocks_stay) t.stands.held;
       };
     }

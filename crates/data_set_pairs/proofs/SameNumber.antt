@@ -1,8 +1,10 @@
 -- A state with the partition and the reorganization number of the one in its place leaves the table of pages as it is.
-use Rattle.std.proofs.Common.{◌≡◌, ◌∙◌, ℕ, zero, suc, ◌+◌, ◌≤◌, ◌==◌, Bool, true, false, ◌&&◌, ◌||◌, not, cond, nat_lt, List, [], ◌∷◌, length, drop, reverse, slice_get, slice_set, Option, None, Some, IsTrue, subst, refl, sym, ap, arith, length-drop}
-use Rattle.std.specs.Prelude.{filter, IfSome, IfNone}
-use Rattle.std.specs.List.{list_all, list_any}
-use Rattle.std.proofs.lemmas.Bool.{and_parts, false≢true}
+use Rattle.std.proofs.Common.{◌≡◌, ◌∙◌, ℕ, zero, suc, ◌+◌, ◌==◌, Bool, true, false, ◌&&◌, ◌||◌, not, cond, nat_lt, List, [], ◌∷◌, length, drop, reverse, slice_get, slice_set, Option, None, Some, IsTrue, subst, refl, sym, ap, arith}
+use Rattle.std.specs.Prelude.{filter, All, IfSome, IfNone}
+use Rattle.std.proofs.lemmas.List.Elements.{All-tail}
+use Rattle.data_set_pairs.proofs.ScanSteps.{known_held}
+use Rattle.std.specs.List.{list_any}
+use Rattle.std.proofs.lemmas.Bool.{and_parts}
 use Rattle.std.proofs.lemmas.Option.{none-some, same_Some}
 use Rattle.hal_base.specs.declared.pages.SetId.{SetId}
 use Rattle.hal_base.specs.declared.place.PartState.{PartState}
@@ -13,7 +15,7 @@ use Rattle.data_set_pairs.specs.Table.{IsTable}
 use Rattle.data_set_pairs.specs.Kept.{last_pages, last_free}
 use Rattle.data_set_pairs.specs.Volume.{IsLaidOut}
 use Rattle.data_set_pairs.specs.Row.{KeepsNumber}
-use Rattle.data_set_pairs.specs.Image.{is_taken, page_at, taken_pages, free_blocks, are_known, TableStands}
+use Rattle.data_set_pairs.specs.Image.{is_held, is_taken, page_at, taken_pages, free_blocks, are_known, TableStands}
 
 -- ---- the free blocks
 
@@ -44,48 +46,7 @@ rest_of indexes states block = is_live_set indexes states (kind_in block) (set_i
 abbrev taken_if : ℕ → List PartState → List ℕ → Bool → Bool
 taken_if indexes states block free = not free && (kind_in block == 1 || kind_in block == 2) && rest_of indexes states block
 
-counted_if : {X : Type 0} (b : Bool) (x : X) (xs : List X) (limit : ℕ) → length xs ≤ limit → length (cond b (x ∷ xs) xs) ≤ suc limit
-counted_if true x xs limit h = omega (arith, h)
-counted_if false x xs limit h = omega (arith, h)
-
-count_bound : (indexes : ℕ) (states : List PartState) (n : ℕ) (blocks : List (List ℕ)) → length (taken_pages indexes states n blocks) + length (free_blocks states n blocks) ≤ length blocks
-count_bound indexes states n [] = omega arith
-count_bound indexes states n (block ∷ blocks) = by (is_free states block) (is_taken indexes states block) refl refl (count_bound indexes states (n + 1) blocks)
-  where
-    pages : List PagePlace
-    pages = taken_pages indexes states (n + 1) blocks
-
-    numbers : List ℕ
-    numbers = free_blocks states (n + 1) blocks
-
-    by : (f t : Bool) → is_free states block ≡ f → is_taken indexes states block ≡ t → length pages + length numbers ≤ length blocks → length (cond t (page_at n block ∷ pages) pages) + length (cond f (n ∷ numbers) numbers) ≤ suc (length blocks)
-    by true true e g h = absurd (false≢true (sym (ap (taken_if indexes states block) e) ∙ g))
-    by true false e g h = omega (arith, h)
-    by false true e g h = omega (arith, h)
-    by false false e g h = omega (arith, h)
-
-abbrev pub is_known : ℕ → List PartState → List ℕ → Bool
-is_known indexes states block = is_free states block || is_taken indexes states block
-
-all_known : (indexes : ℕ) (states : List PartState) (n : ℕ) (blocks : List (List ℕ)) → length (taken_pages indexes states n blocks) + length (free_blocks states n blocks) ≡ length blocks → list_all (is_known indexes states) blocks ≡ true
-all_known indexes states n [] h = refl
-all_known indexes states n (block ∷ blocks) h =
-    by (is_free states block) (is_taken indexes states block) refl refl h (count_bound indexes states (n + 1) blocks) (all_known indexes states (n + 1) blocks)
-  where
-    pages : List PagePlace
-    pages = taken_pages indexes states (n + 1) blocks
-
-    numbers : List ℕ
-    numbers = free_blocks states (n + 1) blocks
-
-    by : (f t : Bool) → is_free states block ≡ f → is_taken indexes states block ≡ t → length (cond t (page_at n block ∷ pages) pages) + length (cond f (n ∷ numbers) numbers) ≡ suc (length blocks)
-        → length pages + length numbers ≤ length blocks → (length pages + length numbers ≡ length blocks → list_all (is_known indexes states) blocks ≡ true) → (f || t) && list_all (is_known indexes states) blocks ≡ true
-    by true true e g h few rest = absurd (false≢true (sym (ap (taken_if indexes states block) e) ∙ g))
-    by true false e g h few rest = rest (omega (arith, h))
-    by false true e g h few rest = rest (omega (arith, h))
-    by false false e g h few rest = absurd (omega (arith, h, few))
-
-same_taken : (indexes : ℕ) (states : List PartState) (place : ℕ) (s : PartState) (block : List ℕ) → KeepsNumber states place s → is_known indexes states block ≡ true
+same_taken : (indexes : ℕ) (states : List PartState) (place : ℕ) (s : PartState) (block : List ℕ) → KeepsNumber states place s → is_held indexes states block ≡ true
     → (is_free (slice_set states place s) block || is_live indexes (slice_set states place s) block) ≡ true → is_taken indexes (slice_set states place s) block ≡ is_taken indexes states block
 same_taken indexes states place s block k old new = by (is_free states block) refl old
   where
@@ -99,41 +60,27 @@ same_taken indexes states place s block k old new = by (is_free states block) re
         let live : is_live indexes changed block ≡ true = sym (ap (λ (b : Bool). b || is_live indexes changed block) free) ∙ new in
         (and_parts (is_taken indexes changed block) (says_no_more block) live).0 ∙ sym h
 
-same_pages : (indexes : ℕ) (states : List PartState) (place : ℕ) (s : PartState) (n : ℕ) (blocks : List (List ℕ)) → KeepsNumber states place s → list_all (is_known indexes states) blocks ≡ true → are_known indexes (slice_set states place s) blocks ≡ true
+same_pages : (indexes : ℕ) (states : List PartState) (place : ℕ) (s : PartState) (n : ℕ) (blocks : List (List ℕ)) → KeepsNumber states place s → All (λ b. is_held indexes states b ≡ true) blocks → are_known indexes (slice_set states place s) blocks ≡ true
     → taken_pages indexes (slice_set states place s) n blocks ≡ taken_pages indexes states n blocks
 same_pages indexes states place s n [] k old new = refl
 same_pages indexes states place s n (block ∷ blocks) k old new =
     let changed = slice_set states place s in
-    let (was, rest) = and_parts (is_known indexes states block) (list_all (is_known indexes states) blocks) old in
+    let was = old 0 block (omega arith) in
+    let rest = All-tail (λ (b : List ℕ). is_held indexes states b ≡ true) block blocks old in
     let (is, others) = and_parts (is_free changed block || is_live indexes changed block) (are_known indexes changed blocks) new in
     let pages = taken_pages indexes changed (n + 1) blocks in
     ap (λ (b : Bool). cond b (page_at n block ∷ pages) pages) (same_taken indexes states place s block k was is)
     ∙ ap (λ (ps : List PagePlace). cond (is_taken indexes states block) (page_at n block ∷ ps) ps) (same_pages indexes states place s (n + 1) blocks k rest others)
 
-all_pass : (xs : List PagePlace) → length (filter (λ (_ : PagePlace). true) xs) ≡ length xs
-all_pass [] = refl
-all_pass (x ∷ xs) = ap suc (all_pass xs)
-
 -- ---- the table
 
-pub known_all : (indexes control number : ℕ) (states : List PartState) (pages : List PagePlace) (free : List ℕ) (list : List (List ℕ)) → IsTable control number pages free → IsLaidOut indexes control number states pages free list → list_all (is_known indexes states) (drop control list) ≡ true
-known_all indexes control number states pages free list table laid =
-    let blocks = drop control list in
-    let as_many : length pages ≡ length (taken_pages indexes states control blocks) = sym (all_pass pages) ∙ laid.table.taken (λ _. true) ∙ all_pass (taken_pages indexes states control blocks) in
-    all_known indexes states control blocks (omega (arith, as_many, ap length laid.table.left, length-drop control list, laid.many, table.every))
-
-pub same_stands : (indexes control number : ℕ) (states : List PartState) (place : ℕ) (s : PartState) (pages : List PagePlace) (free : List ℕ) (list : List (List ℕ)) → KeepsNumber states place s → length list ≡ number
-    → length pages + length free + control ≡ number → IsTrue (are_known indexes (slice_set states place s) (drop control list)) → TableStands indexes states control pages free list → TableStands indexes (slice_set states place s) control pages free list
-same_stands indexes control number states place s pages free list k many every known t =
-    let blocks = drop control list in
-    let as_many : length pages ≡ length (taken_pages indexes states control blocks) = sym (all_pass pages) ∙ t.taken (λ _. true) ∙ all_pass (taken_pages indexes states control blocks) in
-    let dropped = length-drop control list in
-    let whole : length (taken_pages indexes states control blocks) + length (free_blocks states control blocks) ≡ length blocks = omega (arith, as_many, ap length t.left, dropped, many, every) in
-    let pages_same = same_pages indexes states place s control blocks k (all_known indexes states control blocks whole) known in
-    record {
-      taken = λ test. t.taken test ∙ ap (λ (ps : List PagePlace). length (filter test ps)) (sym pages_same);
-      left = t.left ∙ sym (same_free_blocks states place s control blocks k);
-    }
+pub same_stands : (indexes control : ℕ) (states : List PartState) (place : ℕ) (s : PartState) (pages : List PagePlace) (free : List ℕ) (list : List (List ℕ)) → KeepsNumber states place s
+    → IsTrue (are_known indexes (slice_set states place s) (drop control list)) → TableStands indexes states control pages free list → TableStands indexes (slice_set states place s) control pages free list
+same_stands indexes control states place s pages free list k known t = record {
+  taken = λ test. t.taken test ∙ ap (λ (ps : List PagePlace). length (filter test ps)) (sym (same_pages indexes states place s control (drop control list) k t.held known));
+  left = t.left ∙ sym (same_free_blocks states place s control (drop control list) k);
+  held = known_held indexes (slice_set states place s) (drop control list) known;
+}
 
 -- ---- the table that a change leaves: another, or the same where it names none
 
@@ -151,4 +98,4 @@ stands_left indexes control number states changed place s None now None set is l
 stands_left indexes control number states changed place s None now (Some list) set is laid known keeps other =
     let before = laid list refl in
     subst (λ (l : List PartState). TableStands indexes l control now.pages.items (reverse now.free.items) list) (sym set)
-    (same_stands indexes control number states place s now.pages.items (reverse now.free.items) list keeps before.many is.every known before.table)
+    (same_stands indexes control states place s now.pages.items (reverse now.free.items) list keeps known before.table)

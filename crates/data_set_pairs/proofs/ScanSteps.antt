@@ -1,9 +1,11 @@
 -- How a table goes on with the next data block below.
-use Rattle.std.proofs.Common.{◌≡◌, ◌∙◌, ℕ, zero, suc, ◌+◌, ◌-◌, ◌^◌, ◌<◌, ◌≤◌, Bool, true, false, cond, List, [], ◌∷◌, ◌++◌, length, drop, reverse, Option, None, Some, slice_get, refl, sym, ap, subst, arith}
+use Rattle.std.proofs.Common.{◌≡◌, ◌∙◌, ℕ, zero, suc, ◌+◌, ◌-◌, ◌^◌, ◌<◌, ◌≤◌, Bool, true, false, cond, List, [], ◌∷◌, ◌++◌, drop, get_or, reverse, Option, None, Some, slice_get, refl, sym, ap, subst, arith}
 use Rattle.std.specs.Prelude.{◌&&◌, ◌||◌, ◌==◌, not, All, IfSome, MatchBool}
 use Rattle.std.proofs.lemmas.Bool.{and_parts, true≢false}
 use Rattle.std.proofs.lemmas.List.{reverse-append, drop_all, drop-drop}
+use Rattle.std.specs.List.{list_all}
 use Rattle.std.proofs.lemmas.List.Elements.{All-nil, All-push}
+use Rattle.std.proofs.lemmas.List.Folds.{list_all_at}
 use Rattle.std.proofs.lemmas.Option.{slice_get_within, get_or_from_slice_get}
 use Rattle.std.proofs.Math.Seq.{drop-cons}
 use Rattle.hal_base.specs.declared.place.PartState.{PartState}
@@ -11,7 +13,7 @@ use Rattle.volume_image.specs.Header.{kind_in, set_in, is_free, is_live, is_live
 use Rattle.data_set_pairs.specs.declared.place.PagePlace.{PagePlace}
 use Rattle.data_set_pairs.specs.Table.{HasPlace}
 use Rattle.hal_base.specs.StoreCalls.{AreBlocks}
-use Rattle.data_set_pairs.specs.Image.{is_taken, page_at, taken_pages, free_blocks, are_known, IsScanned, HasScanned, HasUnknown}
+use Rattle.data_set_pairs.specs.Image.{is_held, is_taken, page_at, taken_pages, free_blocks, are_known, IsScanned, HasScanned, HasUnknown}
 
 pub known_live : (free live : Bool) → live ≡ true → (free || live) ≡ true
 known_live true live is = refl
@@ -107,3 +109,18 @@ scan_wrong indexes states control at n number (Some list) now block pages more f
     let here = next_below (Some list) now at n block old.seen same next old.told got list refl in
     let deep : drop (at - control) (drop control list) ≡ drop at list = drop-drop (at - control) control list ∙ ap (λ (k : ℕ). drop k list) (omega (arith, low)) in
     unknown_further indexes states (drop control list) (at - control) (subst (HasUnknown indexes states) (sym (deep ∙ here)) unknown)
+
+pub all_at : {X : Type 0} (p : X → Bool) (xs : List X) → list_all p xs ≡ true → All (λ x. p x ≡ true) xs
+all_at {X} p xs all k d lt = by (p (get_or xs k d)) refl
+  where
+    by : (b : Bool) → p (get_or xs k d) ≡ b → p (get_or xs k d) ≡ true
+    by true is = is
+    by false is = absurd (true≢false (sym all ∙ list_all_at p xs k d lt is))
+
+-- what is free or live is free or taken
+pub known_held : (indexes : ℕ) (states : List PartState) (blocks : List (List ℕ)) → are_known indexes states blocks ≡ true → All (λ b. is_held indexes states b ≡ true) blocks
+known_held indexes states blocks known k d lt = by (is_free states (get_or blocks k d)) refl (all_at (λ (b : List ℕ). is_free states b || is_live indexes states b) blocks known k d lt)
+  where
+    by : (f : Bool) → is_free states (get_or blocks k d) ≡ f → (f || is_live indexes states (get_or blocks k d)) ≡ true → is_held indexes states (get_or blocks k d) ≡ true
+    by true is here = ap (λ (f : Bool). f || is_taken indexes states (get_or blocks k d)) is
+    by false is here = ap (λ (f : Bool). f || is_taken indexes states (get_or blocks k d)) is ∙ taken_if_live indexes states (get_or blocks k d) here

@@ -1,6 +1,6 @@
 -- What a fetch and a stage of a page's block come to for the volume.
-use Rattle.std.proofs.Common.{◌≡◌, ◌∙◌, ◌==◌, Bool, true, false, inl, inr, ℕ, ◌-◌, ◌*◌, ◌<◌, ◌≤◌, List, [], length, take, drop, get_or, Option, None, Some, Ok, Err, Result, slice_get, slice_set, refl, sym, ap, subst, arith}
-use Rattle.std.specs.Prelude.{◌⊎◌, IfSome, OnOk, OnErr}
+use Rattle.std.proofs.Common.{◌≡◌, ◌∙◌, ◌==◌, Bool, true, false, inl, inr, ℕ, ◌-◌, ◌*◌, ◌<◌, ◌≤◌, List, [], length, length-drop, take, drop, get_or, Option, None, Some, Ok, Err, Result, slice_get, slice_set, refl, sym, ap, subst, arith}
+use Rattle.std.specs.Prelude.{◌⊎◌, ◌||◌, All, IfSome, OnOk, OnErr}
 use Rattle.std.specs.Option.{option_map}
 use Rattle.std.specs.List.{list_any}
 use Rattle.std.proofs.lemmas.Bool.{true≢false}
@@ -12,7 +12,7 @@ use Rattle.hal_base.specs.declared.pages.SetId.{SetId}
 use Rattle.hal_base.specs.declared.place.PartState.{PartState}
 use Rattle.data_set_pairs.specs.declared.place.PagePlace.{PagePlace}
 use Rattle.data_set_pairs.specs.Table.{IsBetween, IsTable, places_of}
-use Rattle.data_set_pairs.specs.Image.{taken_pages, free_blocks, SamePages}
+use Rattle.data_set_pairs.specs.Image.{is_held, is_taken, taken_pages, free_blocks, SamePages}
 use Rattle.data_set_pairs.specs.Volume.{IsLaidOut}
 use Rattle.data_set_pairs.specs.Shelf.{blocks_at, SameControl}
 use Rattle.data_set_pairs.specs.ShelfLaw.{places_within}
@@ -81,6 +81,7 @@ laid_staged indexes control number states pages free (Some old) now set n k x s 
       table = record {
         taken = subst (λ (l : List PagePlace). SamePages l pages) (sym (ap (taken_pages indexes states control) set_data ∙ taken_same indexes states control (drop control old) (k - control) x like)) before.table.taken;
         left = before.table.left ∙ sym (ap (free_blocks states control) set_data ∙ free_same indexes states control (drop control old) (k - control) x like);
+        held = subst (All (λ b. is_held indexes states b ≡ true)) (sym set_data) (All-set (λ (b : List ℕ). is_held indexes states b ≡ true) (drop control old) (k - control) x (ap (λ (f : Bool). f || is_taken indexes states x) like.free ∙ ap (λ (t : Bool). is_free states (get_or (drop control old) (k - control) []) || t) like.taken ∙ before.table.held (k - control) [] (omega (arith, from, (place_number control number pages free set n k s.table s.at).to, before.many, length-drop control old))) before.table.held);
       };
     } in
     subst (IsLaidOut indexes control number states pages free) same made

@@ -12,6 +12,10 @@ use Rattle.data_set_pairs.specs.Table.{HasPlace}
 abbrev pub is_taken : ℕ → List PartState → List ℕ → Bool
 is_taken indexes states block = not (is_free states block) && (kind_in block == 1 || kind_in block == 2) && is_live_set indexes states (kind_in block) (set_in block)
 
+-- free, or taken
+abbrev pub is_held : ℕ → List PartState → List ℕ → Bool
+is_held indexes states block = is_free states block || is_taken indexes states block
+
 abbrev pub page_at : ℕ → List ℕ → PagePlace
 page_at n block = record { set = set_in block; page = page_in block; block = n }
 
@@ -63,10 +67,11 @@ pub record HasScanned (indexes : ℕ) (states : List PartState) (n number : ℕ)
 abbrev pub SamePages : List PagePlace → List PagePlace → Type 0
 SamePages xs ys = (test : PagePlace → Bool) → length (filter test ys) ≡ length (filter test xs)
 
--- the table's pages and free blocks are just those of the data blocks
+-- the table's pages and free blocks are just those of the data blocks, and each of these is one or the other
 pub record TableStands (indexes : ℕ) (states : List PartState) (control : ℕ) (pages : List PagePlace) (free : List ℕ) (blocks : List (List ℕ)) : Type 0 where
   pub taken : SamePages (taken_pages indexes states control (drop control blocks)) pages
   pub left : free ≡ free_blocks states control (drop control blocks)
+  pub held : All (λ block. IsTrue (is_held indexes states block)) (drop control blocks)
 
 -- the block of a page of a data set: it is taken, and its head names the page
 pub record IsPage (indexes : ℕ) (states : List PartState) (set : SetId) (n : ℕ) (block : List ℕ) : Type 0 where

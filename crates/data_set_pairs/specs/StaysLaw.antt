@@ -1,5 +1,5 @@
 -- Blocks that stay, over several calls.
-use Rattle.std.proofs.Common.{◌∙◌, ◌≤◌, refl, arith}
+use Rattle.std.proofs.Common.{◌∙◌, refl, arith}
 use Rattle.hal_base.specs.StoreCalls.{StoreView}
 use Rattle.hal_base.proofs.StoreLemmas.{store_same_none, store_same_then}
 use Rattle.data_set_pairs.specs.Stays.{Stays, Looks}

@@ -38,7 +38,7 @@ pub record IsBetween (low high n : ℕ) : Type 0 where
   pub from : low ≤ n
   pub to : n < high
 
--- data sets stand by rank, each with its pages in order; the free blocks rise; each data block is a page or free
+-- data sets stand by rank, each with its pages in order; the free blocks rise; no more pages and free blocks than data blocks
 pub record IsTable (control number : ℕ) (pages : List PagePlace) (free : List ℕ) : Type 0 where
   pub order : IsNonDecreasingBy (λ p. set_rank p.set) pages
   pub run : RunFromZero pages
@@ -46,7 +46,7 @@ pub record IsTable (control number : ℕ) (pages : List PagePlace) (free : List 
   pub within : All (λ p. IsBetween control number p.block) pages
   pub rise : IsTrue (rises_from control free)
   pub free_within : All (IsBetween control number) free
-  pub every : length pages + length free + control ≡ number
+  pub every : length pages + length free + control ≤ number
 
 -- where the next page of a data set goes: no later data set stands in front, and only later ones behind
 pub record IsFront (set : SetId) (pages : List PagePlace) (end : ℕ) : Type 0 where

@@ -1,4 +1,4 @@
-use Rattle.std.proofs.Common.{◌≡◌, ◌∙◌, ℕ, List, Err, ap, subst, reverse, length, drop}
+use Rattle.std.proofs.Common.{◌≡◌, ◌∙◌, ℕ, List, Err, ap, subst, reverse, drop}
 use Rattle.std.specs.Prelude.{IfSome, IsTrue}
 use Rattle.hal_base.specs.declared.place.PartState.{PartState}
 use Rattle.data_set_pairs.specs.declared.fault.VolWhy.TheVariants.{Damaged}

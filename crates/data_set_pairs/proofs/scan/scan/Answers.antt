@@ -1,4 +1,4 @@
-use Rattle.std.proofs.Common.{◌≡◌, ◌∙◌, ◌+◌, ◌-◌, refl, arith}
+use Rattle.std.proofs.Common.{◌≡◌, ◌+◌, ◌-◌, arith}
 use Rattle.data_set_pairs.proofs.ScanSteps.{scan_none, scan_more, scan_wrong}
 use Rattle.data_set_pairs.specs.StaysLaw.{looks_none, looks_then}
 use Rattle.data_set_pairs.proofs.scan.scan.Goals as goal

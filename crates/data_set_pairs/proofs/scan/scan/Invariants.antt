@@ -1,4 +1,4 @@
-use Rattle.std.proofs.Common.{◌≡◌, ◌-◌, ◌≤◌}
+use Rattle.std.proofs.Common.{◌-◌, ◌≤◌}
 use Rattle.std.specs.Prelude.{IsTrue}
 use Rattle.data_set_pairs.specs.Stays.{Looks}
 use Rattle.data_set_pairs.specs.Image.{HasScanned}

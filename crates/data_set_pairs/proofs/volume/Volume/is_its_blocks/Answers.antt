@@ -17,7 +17,7 @@ pub returns-clause-each : goal.returns-clause-each
 returns-clause-each g c = let v = c.args.self.now in if_told (g.B.Blocks.seen v.blocks).list (λ list is block low high held. its_page v.indexes v.control (g.B.Blocks.seen v.blocks).number v.states.items v.table.pages.items (reverse v.table.free.items) list block v.in_table (v.laid list is) low high held)
 
 pub returns-clause-known : goal.returns-clause-known
-returns-clause-known g c = let v = c.args.self.now in if_told (g.B.Blocks.seen v.blocks).list (λ list is quiet. quiet_known v.indexes v.control (g.B.Blocks.seen v.blocks).number v.states.items v.table.pages.items (reverse v.table.free.items) list v.in_table (v.laid list is) (quiet_pages v.indexes v.control (g.B.Blocks.seen v.blocks).number v.states.items v.table.pages.items (reverse v.table.free.items) list v.in_table (v.laid list is) quiet))
+returns-clause-known g c = let v = c.args.self.now in if_told (g.B.Blocks.seen v.blocks).list (λ list is quiet. quiet_known v.indexes v.control (g.B.Blocks.seen v.blocks).number v.states.items v.table.pages.items (reverse v.table.free.items) list (v.laid list is) (quiet_pages v.indexes v.control (g.B.Blocks.seen v.blocks).number v.states.items v.table.pages.items (reverse v.table.free.items) list v.in_table (v.laid list is) quiet))
 
 pub returns-clause-numbered : goal.returns-clause-numbered
 returns-clause-numbered g c = let v = c.args.self.now in if_told (g.B.Blocks.seen v.blocks).list (λ list is known. numbered_known v.indexes v.control (g.B.Blocks.seen v.blocks).number v.states.items v.table.pages.items (reverse v.table.free.items) list v.in_table (v.laid list is) known)
