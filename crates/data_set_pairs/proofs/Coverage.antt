@@ -15,6 +15,7 @@ use Rattle.data_set_pairs.specs.Table.{IsTable, is_page_of, pages_of, places_of}
 use Rattle.data_set_pairs.specs.Image.{are_quiet, is_taken, page_at, taken_pages}
 use Rattle.data_set_pairs.specs.Shelf.{blocks_at}
 use Rattle.data_set_pairs.specs.Volume.{IsLaidOut}
+use Rattle.data_set_pairs.proofs.Falling.{any_filter}
 use Rattle.data_set_pairs.proofs.TableSteps.{own_set}
 use Rattle.data_set_pairs.proofs.Numbering.{same_any}
 use Rattle.data_set_pairs.proofs.Staging.{data_at}
@@ -41,14 +42,6 @@ taken_any indexes states n (suc j) (b ∷ bs) test lt taken pass =
     further : (t : Bool) → list_any test (taken_pages indexes states (n + 1) bs) ≡ true → list_any test (cond t (page_at n b ∷ taken_pages indexes states (n + 1) bs) (taken_pages indexes states (n + 1) bs)) ≡ true
     further true any = or_right (test (page_at n b)) (list_any test (taken_pages indexes states (n + 1) bs)) any
     further false any = any
-
-any_if : {X : Type 0} (test : X → Bool) (b : Bool) (x : X) (xs : List X) (rest : Bool) → list_any test xs ≡ rest → list_any test (cond b (x ∷ xs) xs) ≡ (b && test x || rest)
-any_if test true x xs rest is = ap (λ (r : Bool). test x || r) is
-any_if test false x xs rest is = is
-
-any_filter : {X : Type 0} (f test : X → Bool) (xs : List X) → list_any test (filter f xs) ≡ list_any (λ x. f x && test x) xs
-any_filter f test [] = refl
-any_filter f test (x ∷ xs) = any_if test (f x) x (filter f xs) (list_any (λ x. f x && test x) xs) (any_filter f test xs)
 
 -- the page that is named by the head of a taken block
 named_page : (set : SetId) (n k : ℕ) (pages : List PagePlace) → ((m : ℕ) (d : PagePlace) → m < length (pages_of set pages) → (get_or (pages_of set pages) m d).page ≡ m) → list_any (λ p. p.page == n && p.block == k) (pages_of set pages) ≡ true → slice_get (places_of set pages) n ≡ Some k

@@ -1,3 +1,4 @@
+pub mod Falling
 pub mod TableSteps
 pub mod OrderSteps
 pub mod StateSteps
@@ -18,3 +19,4 @@ pub mod SameNumber
 pub mod Staged
 pub mod Coverage
 pub mod Stepping
+pub mod Leaving

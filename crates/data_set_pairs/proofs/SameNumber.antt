@@ -81,21 +81,3 @@ same_stands indexes control states place s pages free list k known t = record {
   left = t.left ∙ sym (same_free_blocks states place s control (drop control list) k);
   held = known_held indexes (slice_set states place s) (drop control list) known;
 }
-
--- ---- the table that a change leaves: another, or the same where it names none
-
-pub table_left : (control number : ℕ) (o : Option Table) (now : Table) → IsTable control number now.pages.items (reverse now.free.items) → IfSome o (λ t. IsTable control number t.pages.items (reverse t.free.items))
-    → IsTable control number (last_pages o now) (reverse (last_free o now))
-table_left control number None now is other = is
-table_left control number (Some t) now is other = other
-
-pub stands_left : (indexes control number : ℕ) (states changed : List PartState) (place : ℕ) (s : PartState) (o : Option Table) (now : Table) (told : Option (List (List ℕ))) → changed ≡ slice_set states place s
-    → IsTable control number now.pages.items (reverse now.free.items) → ((list : List (List ℕ)) → told ≡ Some list → IsLaidOut indexes control number states now.pages.items (reverse now.free.items) list)
-    → IfSome told (λ list. IsTrue (are_known indexes (slice_set states place s) (drop control list))) → IfNone o (KeepsNumber states place s)
-    → IfSome o (λ t. IfSome told (TableStands indexes changed control t.pages.items (reverse t.free.items))) → IfSome told (TableStands indexes changed control (last_pages o now) (reverse (last_free o now)))
-stands_left indexes control number states changed place s (Some t) now told set is laid known keeps other = other
-stands_left indexes control number states changed place s None now None set is laid known keeps other = tt
-stands_left indexes control number states changed place s None now (Some list) set is laid known keeps other =
-    let before = laid list refl in
-    subst (λ (l : List PartState). TableStands indexes l control now.pages.items (reverse now.free.items) list) (sym set)
-    (same_stands indexes control states place s now.pages.items (reverse now.free.items) list keeps known before.table)

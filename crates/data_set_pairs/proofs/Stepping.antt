@@ -16,15 +16,15 @@ pub record IsStep (indexes : ℕ) (states changed : List PartState) : Type 0 whe
   pub left : (set : SetId) → is_left states set ≡ true → is_left changed set ≡ true
   pub live : (kind : ℕ) (set : SetId) → is_live_set indexes states kind set ≡ true → is_left changed set ≡ false → is_live_set indexes changed kind set ≡ true
 
-or_right : (a b : Bool) → b ≡ true → (a || b) ≡ true
+pub or_right : (a b : Bool) → b ≡ true → (a || b) ≡ true
 or_right true b is = refl
 or_right false b is = is
 
-or_left : (a b : Bool) → a ≡ true → (a || b) ≡ true
+pub or_left : (a b : Bool) → a ≡ true → (a || b) ≡ true
 or_left true b is = refl
 or_left false b is = absurd (false≢true is)
 
-or_map : (a b c d : Bool) → (a ≡ true → c ≡ true) → (b ≡ true → d ≡ true) → (a || b) ≡ true → (c || d) ≡ true
+pub or_map : (a b c d : Bool) → (a ≡ true → c ≡ true) → (b ≡ true → d ≡ true) → (a || b) ≡ true → (c || d) ≡ true
 or_map true b c d first second is = or_left c d (first refl)
 or_map false b c d first second is = or_right c d (second is)
 
@@ -33,7 +33,7 @@ any_set f [] k old s is so any = absurd (none-some old is)
 any_set f (x ∷ xs) zero old s is so any = or_map (f x) (list_any f xs) (f s) (list_any f xs) (λ at. so (ap f (sym (same_Some x old is)) ∙ at)) (λ more. more) any
 any_set f (x ∷ xs) (suc k) old s is so any = or_map (f x) (list_any f xs) (f x) (list_any f (slice_set xs k s)) (λ at. at) (λ more. any_set f xs k old s is so more) any
 
-left_set : (states : List PartState) (place : ℕ) (old s : PartState) (set : SetId) → slice_get states place ≡ Some old → s.part ≡ old.part → old.number ≤ s.number → is_left states set ≡ true → is_left (slice_set states place s) set ≡ true
+pub left_set : (states : List PartState) (place : ℕ) (old s : PartState) (set : SetId) → slice_get states place ≡ Some old → s.part ≡ old.part → old.number ≤ s.number → is_left states set ≡ true → is_left (slice_set states place s) set ≡ true
 left_set states place old s set is part up left =
     let parts = and_parts (not (set.letter == 76)) (list_any (leaves_behind set) states) left in
     and_from (not (set.letter == 76)) (list_any (leaves_behind set) (slice_set states place s)) parts.0 (any_set (leaves_behind set) states place old s is so parts.1)

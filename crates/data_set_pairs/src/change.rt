@@ -1,14 +1,16 @@
 // A partition's state, changed.
-ghost use Rattle.std.specs.Prelude.{◌≡◌, ◌+◌, ◌*◌, ◌/◌, ◌%◌, ◌<◌, ◌≤◌, ℕ, List, [], length, reverse, drop, slice_index_or, slice_set, IfOk, IfSome, IfNone, OnOk, OnErr, IsErrOf, IsTrue, ◌↔◌, None};
+ghost use Rattle.std.specs.Prelude.{◌≡◌, ◌+◌, ◌*◌, ◌/◌, ◌%◌, ◌<◌, ◌≤◌, ℕ, List, [], length, reverse, drop, slice_index_or, slice_set, IfOk, IfSome, IfNone, OnOk, OnErr, IsErrOf, IsSomeAnd, IsTrue, ◌↔◌, None};
 ghost use Rattle.std.specs.Option.{option_map};
 ghost use Rattle.hal_base.specs.Fault.{HasCauseFor, Rose};
 ghost use Rattle.volume_image.specs.Control.{control_row, cursor_bytes};
 ghost use Rattle.data_set_pairs.specs.Stays.{Looks};
 ghost use Rattle.data_set_pairs.specs.Table.{IsTable};
 ghost use Rattle.data_set_pairs.specs.Image.{are_known, AreNumbered, TableStands};
-ghost use Rattle.data_set_pairs.specs.Row.{with_row, KeepsNumber};
+ghost use Rattle.data_set_pairs.specs.Row.{with_row, KeepsNumber, RaisesNumber};
+ghost use Rattle.data_set_pairs.specs.Leaving.{LeavesOut};
 
 use crate::VolWhy;
+use crate::leave::without_left;
 use crate::look::look;
 use crate::scan::read_table;
 use crate::table::Table;
@@ -69,21 +71,31 @@ fn keeps_number(old: &PartState, state: &PartState) -> bool
     state.part == old.part && state.number == old.number
 }
 
-/// The table of pages under changed states. It is read anew where the number of the partition at a place is another.
+/// Whether a state is of the same partition, and of a higher reorganization number.
+fn raises_number(old: &PartState, state: &PartState) -> bool
+    ensures { IsTrue result ↔ ((state.now.part ≡ old.now.part) × (old.now.number < state.now.number)) }
+{
+    state.part == old.part && old.number < state.number
+}
+
+/// The table of pages under changed states. Where the partition at a place is another, or its number is lower, the heads are
+/// read anew.
 fn table_under<B: Blocks>(
     blocks: &mut B,
     control: u32,
     indexes: u16,
+    table: &Table,
     old: &PartState,
     changed: &Vec<PartState>,
     state: &PartState,
 ) -> Result<Option<Table>, VolWhy>
     requires live { IsTrue (B.seen blocks.old).live }
     requires number { control ≤ (B.seen blocks.old).number }
-    ensures same { IfOk result (λ table. IfNone table ((state.now.part ≡ old.now.part) × (state.now.number ≡ old.now.number))) }
-    ensures none { IfOk result (λ table. (state.now.part ≡ old.now.part) × (state.now.number ≡ old.now.number) → table ≡ None) }
-    ensures table { IfOk result (λ table. IfSome table (λ t. IsTable control (B.seen blocks.old).number t.pages.items (reverse t.free.items))) }
-    ensures stands { IfOk result (λ table. IfSome table (λ t. IfSome (B.seen blocks.old).list (TableStands indexes changed.now.items control t.pages.items (reverse t.free.items)))) }
+    ensures same { IfOk result (λ other. IfNone other ((state.now.part ≡ old.now.part) × (state.now.number ≡ old.now.number))) }
+    ensures none { IfOk result (λ other. (state.now.part ≡ old.now.part) × (state.now.number ≡ old.now.number) → other ≡ None) }
+    ensures out { IfOk result (λ other. (state.now.part ≡ old.now.part) × (old.now.number < state.now.number) → IsSomeAnd other (λ t. LeavesOut changed.now.items table.now.pages.items (reverse table.now.free.items) t.pages.items (reverse t.free.items))) }
+    ensures anew { IfOk result (λ other. ((state.now.part ≡ old.now.part) × (old.now.number < state.now.number) → ⊥) → IfSome other (λ t. IsTable control (B.seen blocks.old).number t.pages.items (reverse t.free.items))) }
+    ensures stands { IfOk result (λ other. ((state.now.part ≡ old.now.part) × (old.now.number < state.now.number) → ⊥) → IfSome other (λ t. IfSome (B.seen blocks.old).list (TableStands indexes changed.now.items control t.pages.items (reverse t.free.items)))) }
     ensures looks { Looks (B.steady blocks.old blocks.new) (B.seen blocks.old) (B.seen blocks.new) }
     ensures failed { IsErrOf result VolWhy.Failed → Rose (B.seen blocks.old).disk_faults (B.seen blocks.new).disk_faults }
     ensures live { (result ≡ Err VolWhy.Failed → ⊥) → IsTrue (B.seen blocks.new).live }
@@ -92,6 +104,9 @@ fn table_under<B: Blocks>(
         return Ok(None);
     }
     let alloc = *changed.allocator();
+    if raises_number(old, state) {
+        return Ok(Some(without_left(alloc, table, changed)?));
+    }
     match read_table(alloc, blocks, control, indexes, changed) {
         Ok(table) => Ok(Some(table)),
         Err(why) => Err(why),
@@ -104,6 +119,7 @@ pub(crate) fn plan<B: Blocks>(
     control: u32,
     indexes: u16,
     states: &Vec<PartState>,
+    table: &Table,
     place: u16,
     state: &PartState,
 ) -> Result<Change, VolWhy>
@@ -115,8 +131,9 @@ pub(crate) fn plan<B: Blocks>(
     ensures states { IfOk result (λ change. change.states.items ≡ slice_set states.now.items place state.now) }
     ensures same { IfOk result (λ change. IfNone change.table (KeepsNumber states.now.items place state.now)) }
     ensures none { IfOk result (λ change. KeepsNumber states.now.items place state.now → change.table ≡ None) }
-    ensures table { IfOk result (λ change. IfSome change.table (λ t. IsTable control (B.seen blocks.old).number t.pages.items (reverse t.free.items))) }
-    ensures stands { IfOk result (λ change. IfSome change.table (λ t. IfSome (B.seen blocks.old).list (TableStands indexes change.states.items control t.pages.items (reverse t.free.items)))) }
+    ensures out { IfOk result (λ change. RaisesNumber states.now.items place state.now → IsSomeAnd change.table (λ t. LeavesOut change.states.items table.now.pages.items (reverse table.now.free.items) t.pages.items (reverse t.free.items))) }
+    ensures anew { IfOk result (λ change. (RaisesNumber states.now.items place state.now → ⊥) → IfSome change.table (λ t. IsTable control (B.seen blocks.old).number t.pages.items (reverse t.free.items))) }
+    ensures stands { IfOk result (λ change. (RaisesNumber states.now.items place state.now → ⊥) → IfSome change.table (λ t. IfSome (B.seen blocks.old).list (TableStands indexes change.states.items control t.pages.items (reverse t.free.items)))) }
     ensures block { IfOk result (λ change. IfSome (B.seen blocks.old).list (λ list. change.block ≡ with_row (place % 32) (control_row state.now) (slice_index_or list (place / 32) []))) }
     ensures looks { Looks (B.steady blocks.old blocks.new) (B.seen blocks.old) (B.seen blocks.new) }
     ensures failed { IsErrOf result VolWhy.Failed → Rose (B.seen blocks.old).disk_faults (B.seen blocks.new).disk_faults }
@@ -128,7 +145,7 @@ pub(crate) fn plan<B: Blocks>(
     look(blocks, u32::from(place / 32), &mut block)?;
     put_row(&mut block, place % 32, state);
     let old = &states[usize::from(place)];
-    match table_under(blocks, control, indexes, old, &changed, state) {
+    match table_under(blocks, control, indexes, table, old, &changed, state) {
         Ok(table) => Ok(Change {
             states: changed,
             table,

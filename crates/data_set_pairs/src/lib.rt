@@ -6,6 +6,7 @@ mod change;
 mod fault;
 mod kept;
 mod laws;
+mod leave;
 mod load;
 mod look;
 mod order;

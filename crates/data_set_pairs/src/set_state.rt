@@ -6,7 +6,8 @@ ghost use Rattle.volume_image.specs.Control.{control_row, cursor_bytes};
 ghost use Rattle.data_set_pairs.specs.Stays.{Stays};
 ghost use Rattle.data_set_pairs.specs.Image.{are_known, AreNumbered};
 ghost use Rattle.data_set_pairs.specs.Kept.{held, last_held};
-ghost use Rattle.data_set_pairs.specs.Row.{with_row, KeepsNumber};
+ghost use Rattle.data_set_pairs.specs.Row.{with_row, KeepsNumber, RaisesNumber};
+ghost use Rattle.data_set_pairs.specs.Leaving.{LeavesBehind};
 ghost use Rattle.data_set_pairs.specs.Shelf.{view};
 ghost use Rattle.hal_base.specs.ShelfCalls.{SameShelf};
 
@@ -19,8 +20,8 @@ use hal_base::{Blocks, PartState, StageFault};
 impl<B: Blocks> Volume<B> {
     /// Sets the state of the partition at a place, and stages its row. Under the new states each data block must be free
     /// or live, and the pages of each data set numbered from 0 on; blocks of a number that the partition has left behind
-    /// become free. Only where the number is another one are the heads of the data blocks read for this. Over blocks that
-    /// tell nothing, states under which what is read isn't so are answered as want of memory.
+    /// become free. The heads of the data blocks are read only where the partition is another one or its number is lower. Over
+    /// blocks that tell nothing, states under which what is read then isn't so are answered as want of memory.
     pub fn set_state(&mut self, place: u16, state: &PartState) -> Result<(), StageFault>
         requires live { IsTrue (B.seen self.old.blocks).live }
         requires place { place < length self.old.states.items }
@@ -31,6 +32,7 @@ impl<B: Blocks> Volume<B> {
         ensures states { OnOk result (self.new.states.items ≡ slice_set self.old.states.items place state.now) }
         ensures of { (self.new.control ≡ self.old.control) × (self.new.indexes ≡ self.old.indexes) }
         ensures same { OnOk result (KeepsNumber self.old.states.items place state.now → SameShelf (view self.old.indexes self.old.states.items self.old.table (B.seen self.old.blocks)) (view self.new.indexes self.new.states.items self.new.table (B.seen self.new.blocks))) }
+        ensures left { OnOk result (RaisesNumber self.old.states.items place state.now → LeavesBehind self.new.states.items (view self.old.indexes self.old.states.items self.old.table (B.seen self.old.blocks)) (view self.new.indexes self.new.states.items self.new.table (B.seen self.new.blocks))) }
         ensures unchanged { OnErr result ((B.seen self.new.blocks).list ≡ (B.seen self.old.blocks).list) }
         ensures held { OnErr result (held self.new.control self.new.indexes self.new.states self.new.table ≡ held self.old.control self.old.indexes self.old.states self.old.table) }
         ensures kept { last_held self.new.control self.new.indexes self.new.kept_states self.new.states self.new.kept_table self.new.table ≡ last_held self.old.control self.old.indexes self.old.kept_states self.old.states self.old.kept_table self.old.table }
@@ -44,6 +46,7 @@ impl<B: Blocks> Volume<B> {
             self.control,
             self.indexes,
             &self.states,
+            &self.table,
             place,
             state,
         );

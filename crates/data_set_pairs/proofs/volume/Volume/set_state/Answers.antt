@@ -8,11 +8,16 @@ use Rattle.data_set_pairs.proofs.Staged.{table_counted, laid_counted, row_staged
 use Rattle.data_set_pairs.specs.declared.place.PagePlace.{PagePlace}
 use Rattle.data_set_pairs.specs.Table.{places_of}
 use Rattle.data_set_pairs.specs.Shelf.{blocks_at}
+use Rattle.std.proofs.Common.{Option, None, Some}
+use Rattle.std.specs.Prelude.{IsSomeAnd}
+use Rattle.data_set_pairs.specs.declared.table.Table.{Table}
+use Rattle.data_set_pairs.specs.Leaving.{LeavesOut}
+use Rattle.data_set_pairs.specs.Row.{RaisesNumber}
 use Rattle.data_set_pairs.specs.Stays.{Stays}
 use Rattle.data_set_pairs.specs.StaysLaw.{stays_then}
 use Rattle.data_set_pairs.proofs.Keeping.{is_done, table_moved, laid_moved}
 use Rattle.data_set_pairs.proofs.RowSet.{Setting, laid_set}
-use Rattle.data_set_pairs.proofs.SameNumber.{table_left, stands_left}
+use Rattle.data_set_pairs.proofs.Leaving.{leaves_behind, raises_or_not, table_left, stands_left}
 use Rattle.data_set_pairs.proofs.volume.Volume.set_state.Goals as goal
 
 pub invariant_of-self-2 : goal.invariant_of-self-2
@@ -24,13 +29,14 @@ invariant_of-self-2 g c =
     let front : v.control ≤ (g.B.Blocks.seen v.blocks).number = omega (arith, v.in_table.every) in
     let staged : (g.B.Blocks.seen c.stage.new.self).list ≡ option_map (λ list. slice_set list (c.args.place / 32) c.in-Ok.change.block) (g.B.Blocks.seen v.blocks).list =
     is_done c.stage.result c.in_default.not-Err c.stage.ensures.list ∙ ap (λ (n : ℕ). option_map (λ (list : List (List ℕ)). slice_set list n c.in-Ok.change.block) (g.B.Blocks.seen c.plan-planned.new.blocks).list) c.from-number.ensures ∙ ap (option_map (λ (list : List (List ℕ)). slice_set list (c.args.place / 32) c.in-Ok.change.block)) c.in-Ok.ensures.looks.list in
-    let stands = stands_left v.indexes v.control (g.B.Blocks.seen v.blocks).number v.states.items c.in-Ok.change.states.items c.args.place c.args.state.now c.in-Ok.change.table v.table (g.B.Blocks.seen v.blocks).list c.in-Ok.ensures.states v.in_table v.laid c.requires.known c.in-Ok.ensures.same c.in-Ok.ensures.stands in
+    let raises = raises_or_not v.states.items c.args.place c.args.state.now c.requires.place in
+    let stands = stands_left v.indexes v.control (g.B.Blocks.seen v.blocks).number v.states.items c.in-Ok.change.states.items c.args.place c.args.state.now c.in-Ok.change.table v.table (g.B.Blocks.seen v.blocks).list c.in-Ok.ensures.states v.in_table v.laid c.requires.known c.in-Ok.ensures.same raises c.in-Ok.ensures.out c.in-Ok.ensures.stands in
     let s : Setting v.indexes v.control (g.B.Blocks.seen v.blocks).number v.states.items c.in-Ok.change.states.items v.table.pages.items (last_pages c.in-Ok.change.table v.table) (reverse v.table.free.items) (reverse (last_free c.in-Ok.change.table v.table)) (g.B.Blocks.seen v.blocks).list c.args.place c.args.state.now c.in-Ok.change.block = record { few = few; front = front; below = c.requires.place; short = c.requires.short; set = c.in-Ok.ensures.states; laid = v.laid; stands = stands; row = c.in-Ok.ensures.block } in
     let many : length c.put_states.new.states.items ≡ length v.states.items = omega (arith, ap length same_states, ap length c.in-Ok.ensures.states, length-set v.states.items c.args.place c.args.state.now) in
     record {
       control_is = omega (arith, v.control_is, many);
       near = omega (arith, v.near, number);
-      in_table = table_moved v.control (g.B.Blocks.seen c.stage.new.self).number (last_pages c.in-Ok.change.table v.table) c.put_table.new.table.pages.items (last_free c.in-Ok.change.table v.table) c.put_table.new.table.free.items c.put_table.ensures.pages c.put_table.ensures.free (table_counted v.control (g.B.Blocks.seen c.stage.new.self).number (g.B.Blocks.seen v.blocks).number (last_pages c.in-Ok.change.table v.table) (reverse (last_free c.in-Ok.change.table v.table)) number (table_left v.control (g.B.Blocks.seen v.blocks).number c.in-Ok.change.table v.table v.in_table c.in-Ok.ensures.table));
+      in_table = table_moved v.control (g.B.Blocks.seen c.stage.new.self).number (last_pages c.in-Ok.change.table v.table) c.put_table.new.table.pages.items (last_free c.in-Ok.change.table v.table) c.put_table.new.table.free.items c.put_table.ensures.pages c.put_table.ensures.free (table_counted v.control (g.B.Blocks.seen c.stage.new.self).number (g.B.Blocks.seen v.blocks).number (last_pages c.in-Ok.change.table v.table) (reverse (last_free c.in-Ok.change.table v.table)) number (table_left v.control (g.B.Blocks.seen v.blocks).number c.in-Ok.change.states.items (RaisesNumber v.states.items c.args.place c.args.state.now) c.in-Ok.change.table v.table v.in_table raises c.in-Ok.ensures.out c.in-Ok.ensures.anew));
       laid = λ list is. subst (λ (l : List PartState). IsLaidOut v.indexes v.control (g.B.Blocks.seen c.stage.new.self).number l c.put_table.new.table.pages.items (reverse c.put_table.new.table.free.items) list) (sym same_states) (laid_moved v.indexes v.control (g.B.Blocks.seen c.stage.new.self).number c.in-Ok.change.states.items (last_pages c.in-Ok.change.table v.table) c.put_table.new.table.pages.items (last_free c.in-Ok.change.table v.table) c.put_table.new.table.free.items list c.put_table.ensures.pages c.put_table.ensures.free (laid_counted v.indexes v.control (g.B.Blocks.seen c.stage.new.self).number (g.B.Blocks.seen v.blocks).number c.in-Ok.change.states.items (last_pages c.in-Ok.change.table v.table) (reverse (last_free c.in-Ok.change.table v.table)) list number (laid_set v.indexes v.control (g.B.Blocks.seen v.blocks).number v.states.items c.in-Ok.change.states.items v.table.pages.items (last_pages c.in-Ok.change.table v.table) (reverse v.table.free.items) (reverse (last_free c.in-Ok.change.table v.table)) (g.B.Blocks.seen v.blocks).list (g.B.Blocks.seen c.stage.new.self).list c.args.place c.args.state.now c.in-Ok.change.block s staged list is)));
       as_many = omega (arith, ap length c.put_states.ensures.kept, v.as_many, many);
       kept_in_table = table_moved v.control (g.B.Blocks.seen c.stage.new.self).number (last_pages v.kept_table v.table) (last_pages c.put_table.new.kept c.put_table.new.table) (last_free v.kept_table v.table) (last_free c.put_table.new.kept c.put_table.new.table) c.put_table.ensures.last_pages c.put_table.ensures.last_free (table_counted v.control (g.B.Blocks.seen c.stage.new.self).number (g.B.Blocks.seen v.blocks).number (last_pages v.kept_table v.table) (reverse (last_free v.kept_table v.table)) number v.kept_in_table);
@@ -56,3 +62,16 @@ returns-clause-same g c = λ keeps.
       places = λ set. ap (places_of set) pages;
       free = ap (λ (l : List ℕ). reverse l) free;
     }
+
+some_out : (changed : List PartState) (o : Option Table) (now new : Table) → IsSomeAnd o (λ t. LeavesOut changed now.pages.items (reverse now.free.items) t.pages.items (reverse t.free.items)) → new.pages.items ≡ last_pages o now → new.free.items ≡ last_free o now → LeavesOut changed now.pages.items (reverse now.free.items) new.pages.items (reverse new.free.items)
+some_out changed (Some t) now new out pages free = subst (λ (l : List ℕ). LeavesOut changed now.pages.items (reverse now.free.items) new.pages.items (reverse l)) (sym free) (subst (λ (l : List PagePlace). LeavesOut changed now.pages.items (reverse now.free.items) l (reverse t.free.items)) (sym pages) out)
+some_out changed None now new out pages free = absurd out
+
+pub returns-clause-left : goal.returns-clause-left
+returns-clause-left g c = λ raises.
+    let v = c.args.self.now in
+    let few : length v.states.items ≤ 32 * v.control = omega (arith, v.control_is) in
+    let staged : (g.B.Blocks.seen c.stage.new.self).list ≡ option_map (λ list. slice_set list (c.args.place / 32) c.in-Ok.change.block) (g.B.Blocks.seen v.blocks).list =
+    is_done c.stage.result c.in_default.not-Err c.stage.ensures.list ∙ ap (λ (n : ℕ). option_map (λ (list : List (List ℕ)). slice_set list n c.in-Ok.change.block) (g.B.Blocks.seen c.plan-planned.new.blocks).list) c.from-number.ensures ∙ ap (option_map (λ (list : List (List ℕ)). slice_set list (c.args.place / 32) c.in-Ok.change.block)) c.in-Ok.ensures.looks.list in
+    let out = subst (λ (l : List PartState). LeavesOut l v.table.pages.items (reverse v.table.free.items) c.put_table.new.table.pages.items (reverse c.put_table.new.table.free.items)) (sym c.put_states.ensures.states) (some_out c.in-Ok.change.states.items c.in-Ok.change.table v.table c.put_table.new.table (c.in-Ok.ensures.out raises) c.put_table.ensures.pages c.put_table.ensures.free) in
+    leaves_behind v.indexes v.control (g.B.Blocks.seen v.blocks).number v.states.items c.put_states.new.states.items v.table c.put_table.new.table (g.B.Blocks.seen v.blocks) (g.B.Blocks.seen c.stage.new.self) (c.args.place / 32) c.in-Ok.change.block v.in_table out (omega (arith, c.requires.place, few)) staged
