@@ -9,7 +9,8 @@ use Rattle.block_journal.specs.Body.{AreThere}
 use Rattle.block_journal.specs.Reads.{ReadsWhole, ReadsNumber, ReadsChange, ReadsSize, ReadsBody, LacksBody}
 use Rattle.block_journal.specs.Redo.{bytes_at, number_at, changes_at, are_changes}
 use Rattle.block_journal.proofs.Images.{bytes_at-is}
-use Rattle.block_journal.proofs.Rising.{parts, joined, are_few}
+use Rattle.block_journal.proofs.Rising.{joined, are_few}
+use Rattle.block_journal.specs.JournalLaw.{parts}
 
 none_told : (z : List ℕ) → None ≡ Some z → ⊥
 none_told z is = cc

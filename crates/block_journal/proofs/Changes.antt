@@ -7,9 +7,10 @@ use Rattle.std.proofs.lemmas.Nat.{from_be_bytes-to_be_bytes_4}
 use Rattle.std.proofs.lemmas.Bool.{cases_lt, cases_eq, cases_order}
 use Rattle.hal_base.specs.Disk.{written}
 use Rattle.block_journal.specs.declared.change.Change.{Change}
-use Rattle.block_journal.specs.Redo.{bytes_at, number_at, blocks_at, changes_at, put_all, put_image, change_bytes}
+use Rattle.block_journal.specs.Redo.{bytes_at, number_at, blocks_at, changes_at, put_all, put_image, change_bytes, body_bytes}
 use Rattle.block_journal.specs.Placing.{AreWhole, IsOutside, SameBut}
 use Rattle.block_journal.proofs.Images.{SameFrom, HoldsAt, bytes_at-same, bytes_at-is, written_inside, written_outside, length-written}
+use Rattle.block_journal.specs.JournalLaw.{length-put_all}
 
 Blocks : Type 0
 Blocks = List (List ℕ)
@@ -19,19 +20,10 @@ abbrev pub IsNamed : ℕ → List Change → Type 0
 IsNamed k [] = ⊥
 IsNamed k (c ∷ cs) = (c.number ≡ k) ⊎ IsNamed k cs
 
-pub length-put_all : (cs : List Change) (blocks : List (List ℕ)) → length (put_all cs blocks) ≡ length blocks
-unfolding put_all
-length-put_all [] blocks = refl
-length-put_all (c ∷ cs) blocks = length-put_all cs (set blocks c.number c.content) ∙ length-set blocks c.number c.content
-
 pub put_all-more : (cs : List Change) (c : Change) (blocks : List (List ℕ)) → put_all (cs ++ c ∷ []) blocks ≡ set (put_all cs blocks) c.number c.content
 unfolding put_all
 put_all-more [] c blocks = refl
 put_all-more (d ∷ cs) c blocks = put_all-more cs c (set blocks d.number d.content)
-
-pub put_all-none : (blocks : List (List ℕ)) → put_all [] blocks ≡ blocks
-unfolding put_all
-put_all-none blocks = refl
 
 set_both : (k : ℕ) (b : List ℕ) (xs ys : List (List ℕ)) → length xs ≡ length ys → get_or (set xs k b) k [] ≡ get_or (set ys k b) k []
 set_both k b xs ys same = ⊎_elim (inside) (past) (cases_lt k (length xs))
@@ -210,3 +202,15 @@ changes_at-is at count (c ∷ cs) image whole small holds =
     }) in
     let number_is : from_be_bytes w32 (bytes_at at 4 image) ≡ c.number = ap (from_be_bytes w32) is_number ∙ from_be_bytes-to_be_bytes_4 c.number (omega (arith, whole.0, small)) in
     (λ i. record { number = number_is i; content = is_content i } ∷ is_rest i)
+
+pub length-flat : (count : ℕ) (cs : List Change) → AreWhole count cs → length (flat_map change_bytes cs) ≡ 4100 * length cs
+length-flat count [] whole = refl
+length-flat count (c ∷ cs) whole =
+    let rest = length-flat count cs whole.2 in
+    let four : length (to_be_bytes w32 c.number) ≡ 4 = refl in
+    omega (arith, rest, four, whole.1, length-append (change_bytes c) (flat_map change_bytes cs), length-append (to_be_bytes w32 c.number) c.content)
+
+pub length-body : (count : ℕ) (cs : List Change) → AreWhole count cs → length (body_bytes cs) ≡ 8 + 4100 * length cs
+length-body count cs whole =
+    let eight : length (to_be_bytes w32 (length cs) ++ to_be_bytes w32 1) ≡ 8 = refl in
+    omega (arith, eight, length-flat count cs whole, length-append (to_be_bytes w32 (length cs) ++ to_be_bytes w32 1) (flat_map change_bytes cs))

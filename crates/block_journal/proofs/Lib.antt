@@ -1,6 +1,8 @@
 pub mod BodyReads
 pub mod Calls
 pub mod Changes
+pub mod Fronts
+pub mod Made
 pub mod Torn
 pub mod Images
 mod Placing
@@ -10,5 +12,4 @@ pub mod Place
 pub mod Standing
 pub mod Reading
 pub mod Redoing
-pub mod RedoSteps
 pub mod OpeningSteps

@@ -6,7 +6,8 @@ use Rattle.block_journal.specs.declared.change.Change.{Change}
 use Rattle.block_journal.specs.Redo.{put_all, are_changes}
 use Rattle.block_journal.specs.Staged.{place_in, put_in, IsAt}
 use Rattle.block_journal.proofs.Changes.{IsNamed}
-use Rattle.block_journal.proofs.Rising.{parts, not_named, other_is}
+use Rattle.block_journal.proofs.Rising.{not_named, other_is}
+use Rattle.block_journal.specs.JournalLaw.{parts}
 
 place_low : (n : ℕ) (c : Change) (cs : List Change) → c.number < n → place_in n (c ∷ cs) ≡ suc (place_in n cs)
 unfolding place_in

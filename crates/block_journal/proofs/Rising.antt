@@ -1,39 +1,18 @@
 -- Changes whose numbers rise.
 use Rattle.std.proofs.Common.{◌≡◌, ◌≢◌, inl, inr, ⊎_elim, ℕ, ◌+◌, ◌<◌, ◌≤◌, Bool, true, ◌&&◌, cond, nat_lt, nat_le, ◌==◌, List, [], ◌∷◌, length, get_or, set, refl, sym, ◌∙◌, ap, subst, arith}
-use Rattle.std.proofs.lemmas.Bool.{and_parts, ltb-true, leb-true, eqb-true, lt-ltb, le-ltb, le-leb, eq-eqb, ne_eqb, cases_lt, cases_eq, and_from}
+use Rattle.std.proofs.lemmas.Bool.{lt-ltb, le-ltb, le-leb, eq-eqb, ne_eqb, cases_lt, cases_eq, and_from}
 use Rattle.std.proofs.lemmas.List.{set-set, set_comm}
 use Rattle.block_journal.specs.declared.change.Change.{Change}
 use Rattle.block_journal.specs.Redo.{put_all, are_changes}
-use Rattle.block_journal.specs.Placing.{AreWhole}
 use Rattle.block_journal.specs.Staged.{put_in}
 use Rattle.block_journal.proofs.Changes.{IsNamed, put_all-other}
-
--- what the test says of the first change and of the others
-pub record Parts (from count : ℕ) (c : Change) (cs : List Change) : Type 0 where
-  pub low : from ≤ c.number
-  pub high : c.number < count
-  pub whole : length c.content ≡ 4096
-  pub rest : are_changes (c.number + 1) count cs ≡ true
-
-pub parts : (from count : ℕ) (c : Change) (cs : List Change) → are_changes from count (c ∷ cs) ≡ true → Parts from count c cs
-unfolding are_changes
-parts from count c cs is =
-    let a = and_parts (nat_le from c.number && nat_lt c.number count && length c.content == 4096) (are_changes (c.number + 1) count cs) is in
-    let b = and_parts (nat_le from c.number && nat_lt c.number count) (length c.content == 4096) a.0 in
-    let d = and_parts (nat_le from c.number) (nat_lt c.number count) b.0 in
-    record { low = leb-true from c.number d.0; high = ltb-true c.number count d.1; whole = eqb-true (length c.content) 4096 b.1; rest = a.1 }
+use Rattle.block_journal.specs.JournalLaw.{Parts, parts}
 
 pub joined : (from count : ℕ) (c : Change) (cs : List Change) → Parts from count c cs → are_changes from count (c ∷ cs) ≡ true
 unfolding are_changes
 joined from count c cs p =
     and_from (nat_le from c.number && nat_lt c.number count && length c.content == 4096) (are_changes (c.number + 1) count cs)
     (and_from (nat_le from c.number && nat_lt c.number count) (length c.content == 4096) (and_from (nat_le from c.number) (nat_lt c.number count) (le-leb from c.number p.low) (lt-ltb c.number count p.high)) (eq-eqb (length c.content) 4096 p.whole)) p.rest
-
-pub are_whole : (from count : ℕ) (cs : List Change) → are_changes from count cs ≡ true → AreWhole count cs
-are_whole from count [] is = tt
-are_whole from count (c ∷ cs) is =
-    let p = parts from count c cs is in
-    (p.high, p.whole, are_whole (c.number + 1) count cs p.rest)
 
 pub are_few : (from count : ℕ) (cs : List Change) → from ≤ count → are_changes from count cs ≡ true → length cs + from ≤ count
 are_few from count [] le is = omega (arith, le)

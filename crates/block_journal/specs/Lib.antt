@@ -1,6 +1,8 @@
 pub mod Body
 pub mod Commit
 pub mod Device
+pub mod Front
+pub mod JournalLaw
 pub mod Opening
 pub mod Placing
 pub mod Reads
@@ -8,3 +10,4 @@ pub mod Redo
 pub mod Redoing
 pub mod Staged
 pub mod Stands
+pub mod Steady

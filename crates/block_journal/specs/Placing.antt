@@ -17,7 +17,9 @@ IsOutside first (c ∷ cs) i = ((i < first + 4096 * c.number) ⊎ (first + 4096 
 pub record SameBut (first : ℕ) (cs : List Change) (x y : List ℕ) : Type 0 where
   pub byte : (i : ℕ) → IsOutside first cs i → slice_index x i ≡ slice_index y i
 
--- what may be left while these blocks are being written to a whole image: but in their places it is as before
+-- while these blocks are being written to a whole image: but in their places it is as before
+abbrev pub Places : ℕ → ℕ → List Change → List ℕ → List ℕ → Type 0
+Places first count changes old image = journal_start first count ≤ length old → SameBut first changes image old × (length old ≤ length image)
+
 abbrev pub PlacedFrom : (List ℕ → List ℕ → Type 0) → ℕ → ℕ → List Change → List ℕ → List ℕ → Type 0
-PlacedFrom outcomes first count changes image said =
-    (old : List ℕ) × outcomes old said × (journal_start first count ≤ length old → SameBut first changes image old × (length old ≤ length image))
+PlacedFrom outcomes first count changes image said = (old : List ℕ) × outcomes old said × Places first count changes old image

@@ -27,9 +27,16 @@ changes_at at (suc n) image = record { number = number_at at image; content = by
 abbrev pub journal_start : ℕ → ℕ → ℕ
 journal_start first count = first + 4096 * count
 
+-- where the gate is, and where it ends
+abbrev pub gate : ℕ
+gate = 4096
+
+abbrev pub gate_end : ℕ
+gate_end = 4097
+
 -- the gate is open
 abbrev pub is_open : List ℕ → Bool
-is_open image = slice_index image 4096 == 1
+is_open image = slice_index image gate == 1
 
 -- the blocks with the changes made, one after another
 unfoldable pub put_all : List Change → List (List ℕ) → List (List ℕ)

@@ -1,12 +1,12 @@
 // Writes that are on the disk once they have returned.
 ghost use Rattle.std.specs.Prelude.{◌≡◌, ◌+◌, ◌-◌, ◌*◌, ◌^◌, ◌<◌, ◌≤◌, ℕ, List, [], ◌∷◌, length, OnOk};
 ghost use Rattle.std.specs.Option.{option_map};
-ghost use Rattle.hal_base.specs.Disk.{written};
+ghost use Rattle.hal_base.specs.Disk.{written, Torn};
 ghost use Rattle.hal_base.specs.Fault.{HasCause};
 ghost use Rattle.hal_base.specs.Room.{HasRoom};
 ghost use Rattle.hal_base.specs.Stops.{LeavesOnly, TornFrom};
-ghost use Rattle.block_journal.specs.Device.{SameTold, IsExact};
-ghost use Rattle.block_journal.specs.Placing.{AreWhole, PlacedFrom};
+ghost use Rattle.block_journal.specs.Device.{Became, IsExact};
+ghost use Rattle.block_journal.specs.Placing.{AreWhole, Places, PlacedFrom};
 ghost use Rattle.block_journal.specs.Redo.{journal_start, put_image};
 
 use crate::Change;
@@ -17,7 +17,7 @@ pub(crate) fn write_synced<T: Site>(site: &mut T, at: u64, content: &[u8]) -> Re
     requires { at + length content.now ≤ 2 ^ 63 - 1 }
     ensures image { OnOk result (T.image site.new ≡ option_map (written at content.now) (T.image site.old)) }
     ensures exact { OnOk result (IsExact (T.image site.new) (T.left_at site.new (T.moment site.new))) }
-    ensures told { SameTold (T.image site.old) (T.image site.new) }
+    ensures told { Became (Torn at (length content.now)) (T.image site.old) (T.image site.new) }
     ensures said { T.said site.new ≡ T.said site.old }
     ensures stops { LeavesOnly (T.moment site.old) (T.moment site.new) (T.left_at site.old) (T.left_at site.new) (TornFrom (T.left_at site.old (T.moment site.old)) at (length content.now)) }
     ensures cause { HasCause (T.disk_faults site.old) (T.disk_faults site.new) result }
@@ -41,7 +41,7 @@ fn write_block<T: Site>(site: &mut T, first: u64, count: u32, change: &Change) -
     requires near { first ≤ 2 ^ 30 }
     requires whole { AreWhole count (change.now ∷ []) }
     ensures image { OnOk result (T.image site.new ≡ option_map (written (first + 4096 * change.now.number) change.now.content) (T.image site.old)) }
-    ensures told { SameTold (T.image site.old) (T.image site.new) }
+    ensures told { Became (Places first count (change.now ∷ [])) (T.image site.old) (T.image site.new) }
     ensures said { T.said site.new ≡ T.said site.old }
     ensures stops { LeavesOnly (T.moment site.old) (T.moment site.new) (T.left_at site.old) (T.left_at site.new) (PlacedFrom (T.left_at site.old (T.moment site.old)) first count (change.now ∷ [])) }
     ensures cause { HasCause (T.disk_faults site.old) (T.disk_faults site.new) result }
@@ -62,7 +62,7 @@ pub(crate) fn write_blocks<T: Site>(
     requires whole { AreWhole count changes.now }
     ensures image { OnOk result (T.image site.new ≡ option_map (put_image first changes.now) (T.image site.old)) }
     ensures exact { OnOk result (IsExact (T.image site.new) (T.left_at site.new (T.moment site.new))) }
-    ensures told { SameTold (T.image site.old) (T.image site.new) }
+    ensures told { Became (Places first count changes.now) (T.image site.old) (T.image site.new) }
     ensures said { T.said site.new ≡ T.said site.old }
     ensures stops { LeavesOnly (T.moment site.old) (T.moment site.new) (T.left_at site.old) (T.left_at site.new) (PlacedFrom (T.left_at site.old (T.moment site.old)) first count changes.now) }
     ensures cause { HasCause (T.disk_faults site.old) (T.disk_faults site.new) result }

@@ -95,6 +95,8 @@ impl Site for SureSite {
 
     ghost said_now = { λ s bytes text left. absurd left };
 
+    ghost reads_now = { λ s bytes text reads words left _ _. absurd left };
+
     fn read_at(&mut self, at: u64, buf: &mut [u8]) -> Result<usize, Failed> {
         Ok(copied_from(&self.image, at, buf))
     }

@@ -2,10 +2,10 @@ use Rattle.std.proofs.Common.{◌≡◌, ◌∙◌, ◌<◌, Some, List, ℕ, []
 use Rattle.std.proofs.lemmas.Option.{slice_get-get_or}
 use Rattle.block_journal.specs.declared.change.Change.{Change}
 use Rattle.block_journal.specs.Redo.{put_all}
-use Rattle.block_journal.proofs.Changes.{length-put_all}
 use Rattle.block_journal.proofs.Place.{get_change, get_block}
 use Rattle.block_journal.proofs.staged.copy_block.Goals as goal
 use Rattle.block_journal.proofs.staged.copy_block.Goals.{else-at-changes-via-then-at-changes+else-changes-at, else-at-changes-via-else-at-changes}
+use Rattle.block_journal.specs.JournalLaw.{length-put_all}
 
 abbrev none : Change
 none = record { number = 0; content = [] }

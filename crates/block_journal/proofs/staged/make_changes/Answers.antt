@@ -2,10 +2,10 @@ use Rattle.std.proofs.Common.{◌∙◌, List, ℕ, [], length, get_or, set, tak
 use Rattle.std.proofs.lemmas.List.{take_more}
 use Rattle.block_journal.specs.declared.change.Change.{Change}
 use Rattle.block_journal.specs.Redo.{put_all}
-use Rattle.block_journal.proofs.Changes.{length-put_all, put_all-more, put_all-none}
+use Rattle.block_journal.proofs.Changes.{put_all-more}
 use Rattle.block_journal.proofs.Placing.{whole_one}
-use Rattle.block_journal.proofs.Rising.{are_whole}
 use Rattle.block_journal.proofs.staged.make_changes.Goals as goal
+use Rattle.block_journal.specs.JournalLaw.{are_whole, length-put_all, put_all-none}
 
 abbrev none : Change
 none = record { number = 0; content = [] }

@@ -1,4 +1,10 @@
-use Rattle.block_journal.proofs.Standing.{stands_exactly, none_rise, none_list}
+use Rattle.std.proofs.Common.{◌==◌, List, length, refl, ap, arith}
+use Rattle.hal_base.proofs.StopLemmas.{not_yet}
+use Rattle.block_journal.specs.declared.change.Change.{Change}
+use Rattle.block_journal.specs.Commit.{last_byte}
+use Rattle.block_journal.specs.Stands.{say_room}
+use Rattle.block_journal.specs.JournalLaw.{none_list}
+use Rattle.block_journal.proofs.Standing.{none_rise, say_room-same}
 use Rattle.block_journal.proofs.journal.JournalStore.forget.Goals as goal
 
 pub invariant_of-self : goal.invariant_of-self
@@ -11,8 +17,21 @@ invariant_of-self g c = record {
   stands = c.args.self.now.stands;
 }
 
-pub returns-clause-list : goal.returns-clause-list
-returns-clause-list g c = none_list (g.T.Site.image c.args.self.now.site) c.clear.new.self.items c.args.self.now.kept.items c.clear.ensures.items
-
-pub returns-clause-exactly : goal.returns-clause-exactly
-returns-clause-exactly g c = stands_exactly c.args.self.now.first c.args.self.now.count (g.T.Site.moment c.args.self.now.site) c.args.self.now.kept.items (g.T.Site.image c.args.self.now.site) (g.T.Site.said c.args.self.now.site) (g.T.Site.left_at c.args.self.now.site) (c.args.self.now.stands c.requires) (λ x s left. g.met.T.Site.said_now c.args.self.now.site x s left)
+pub returns-clause-forgets : goal.returns-clause-forgets
+returns-clause-forgets g c = record {
+  list = none_list (g.T.Site.image c.args.self.now.site) c.clear.new.self.items c.args.self.now.kept.items c.clear.ensures.items;
+  cleaned = ap (λ (l : List Change). length l == 0) c.clear.ensures.items;
+  same = record {
+    number = refl;
+    committed = refl;
+    standing = refl;
+    said = refl;
+    stops = not_yet (g.T.Site.moment c.args.self.now.site) _ _;
+    say_faults = refl;
+    room = say_room-same (say_room (last_byte c.args.self.now.first c.args.self.now.count) (g.T.Site.room c.args.self.now.site)) (g.T.Site.disk_faults c.args.self.now.site) _;
+    fetches = omega arith;
+  };
+  no_call = record { moment = refl; stops = not_yet (g.T.Site.moment c.args.self.now.site) _ _; disk_faults = refl };
+  fetches = refl;
+  live = c.requires;
+}
