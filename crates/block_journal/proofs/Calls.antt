@@ -33,6 +33,10 @@ room-larger first le = record { stays = first.stays; quiet = λ room is fits. fi
 pub exact-synced : {image next : Option (List ℕ)} {outcomes : List ℕ → List ℕ → Type 0} → next ≡ image → ((bytes text : List ℕ) → outcomes bytes text → IsTold image bytes) → IsExact next outcomes
 exact-synced {image} is only = record { only = λ told was bytes text left. let told_is : image ≡ Some told = sym is ∙ was in let o = only bytes text left in subst (λ (i : Option (List ℕ)). IsTold i bytes) told_is o }
 
+pub on_ok : {T E P : Type 0} (result : Result T E) → P → OnOk result P
+on_ok (Ok x) p = p
+on_ok (Err e) p = tt
+
 pub if_ok : {T E : Type 0} {P Q : T → Type 0} (result : Result T E) → IfOk result P → ((x : T) → P x → Q x) → IfOk result Q
 if_ok (Ok x) p so = so x p
 if_ok (Err e) p so = tt

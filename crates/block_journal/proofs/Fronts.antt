@@ -4,7 +4,7 @@ use Rattle.std.specs.Int.{w32, from_be_bytes}
 use Rattle.std.proofs.lemmas.Bool.{cases_lt, true≢false}
 use Rattle.std.proofs.lemmas.List.{get_or-take, get_or-drop, length-take-le, ext_get_or}
 use Rattle.hal_base.specs.Disk.{Torn}
-use Rattle.block_journal.specs.declared.change.Change.{Change}
+use Rattle.block_journal.specs.Change.{Change}
 use Rattle.block_journal.specs.Body.{HasBody}
 use Rattle.block_journal.specs.Front.{HasLawfulGate, KeepsFront}
 use Rattle.block_journal.specs.Placing.{AreWhole, SameBut}
@@ -23,7 +23,7 @@ changes_at-ext at (suc n) x y same =
     let number : number_at at x ≡ number_at at y = number_at-ext at x y same in
     let content : bytes_at (at + 4) 4096 x ≡ bytes_at (at + 4) 4096 y = bytes_at-same (at + 4) 4096 x y (record { byte = λ i low high. same i (omega (arith, low)) }) in
     let rest = changes_at-ext (at + 4100) n x y (λ i low. same i (omega (arith, low))) in
-    (λ i. record { number = number i; content = content i } ∷ rest i)
+    (λ i. (number i, content i) ∷ rest i)
 
 pub journal_of-ext : (first count : ℕ) (x y : List ℕ) → ((i : ℕ) → first + 4096 * count ≤ i → get_or x i 0 ≡ get_or y i 0) → journal_of first count x ≡ journal_of first count y
 journal_of-ext first count x y same =

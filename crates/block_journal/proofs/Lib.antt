@@ -8,7 +8,6 @@ pub mod Images
 mod Placing
 pub mod Steps
 pub mod Rising
-pub mod Place
 pub mod Standing
 pub mod Reading
 pub mod Redoing

@@ -1,19 +1,20 @@
 -- How an opening goes on from step to step.
-use Rattle.std.proofs.Common.{◌≡◌, inl, inr, ℕ, ◌+◌, ◌*◌, ◌≤◌, List, [], ◌∷◌, length, get_or, Option, None, Some, option_map, true, false, ◌==◌, refl, sym, ◌∙◌, ap, subst, arith}
+use Rattle.std.proofs.Common.{◌≡◌, ⊎_elim, ℕ, ◌+◌, ◌*◌, ◌≤◌, List, [], ◌∷◌, length, get_or, Option, None, Some, option_map, true, false, ◌==◌, refl, sym, ◌∙◌, ap, subst, arith}
+use Rattle.std.proofs.lemmas.Bool.{cases_lt}
 use Rattle.hal_base.specs.Disk.{Torn, written}
 use Rattle.hal_base.specs.Stops.{LeavesOnly, TornFrom}
-use Rattle.hal_base.proofs.StopLemmas.{leaves-then, leaves-now, leaves-weaken}
-use Rattle.block_journal.specs.declared.change.Change.{Change}
+use Rattle.hal_base.proofs.StopLemmas.{leaves-now, leaves-weaken}
+use Rattle.block_journal.specs.Change.{Change}
 use Rattle.block_journal.specs.Commit.{IsSettled}
 use Rattle.block_journal.specs.Device.{Became, MadeFrom, IsExact}
 use Rattle.block_journal.specs.Opening.{IsReady, ReadsBlocks}
 use Rattle.block_journal.specs.Redo.{blocks_at, redone, is_open, put_image}
-use Rattle.block_journal.specs.Redoing.{IsToRedo, IsRedone, SameRedo, RedoMakes, OpeningLeaves}
+use Rattle.block_journal.specs.Redoing.{IsToRedo, IsRedone, SameRedo, RedoMakes, OpensAt}
 use Rattle.block_journal.specs.Placing.{AreWhole}
 use Rattle.block_journal.specs.Reads.{ReadsBody}
 use Rattle.block_journal.specs.Stands.{Stands, told_where}
 use Rattle.block_journal.proofs.Changes.{blocks_at-ext}
-use Rattle.block_journal.proofs.Made.{Start, became-so}
+use Rattle.block_journal.proofs.Made.{Start, made-before, became-so}
 use Rattle.block_journal.proofs.Redoing.{redo_settled}
 use Rattle.block_journal.specs.JournalLaw.{became-waits, keeps_refl, redone_closed}
 
@@ -34,9 +35,27 @@ module _ (first count place n : ℕ) (image : Option (List ℕ)) (is : place + 1
   pub fill_told : {last : Option (List ℕ)} → Became (Torn place n) image last → Became (RedoMakes first count) image last
   fill_told more = became-so more filled
 
--- an opening: what may be left before the sync, and then
-pub opening_redo : {a b c : ℕ} {past mid at : ℕ → List ℕ → List ℕ → Type 0} (told next : Option (List ℕ)) (first count : ℕ) → next ≡ told → LeavesOnly a b past mid (past a) → LeavesOnly b c mid at (MadeFrom (RedoMakes first count) (mid b) next) → LeavesOnly a c past at (OpeningLeaves (past a) told first count)
-opening_redo told next first count same so_far more = leaves-then (leaves-weaken so_far (λ x s left. inl left)) more (λ x s from. inr (λ y is. from.0 y (same ∙ is), (from.1.0, leaves-now so_far (λ x s left. left) from.1.0 s from.1.1)))
+-- what may be left of an opening, whose first sync failed or returned
+pub opens_never : {a b : ℕ} {past at : ℕ → List ℕ → List ℕ → Type 0} (first count : ℕ) (told : Option (List ℕ)) → LeavesOnly a b past at (past a) → OpensAt first count told a b past at (b + 1)
+opens_never first count told only = record {
+  later = only.later;
+  begun = omega (arith, only.later);
+  same = only.same;
+  until = λ m x s low high soon left. only.each m x s low high left;
+  since = λ m x s low high left. absurd (omega (arith, low, high));
+}
+
+pub opens_at : {a b c : ℕ} {past mid at : ℕ → List ℕ → List ℕ → Type 0} (first count : ℕ) (told next : Option (List ℕ)) → next ≡ told → LeavesOnly a b past mid (past a) → IsExact next (mid b) → LeavesOnly b c mid at (MadeFrom (RedoMakes first count) (mid b) next) → OpensAt first count told a c past at b
+opens_at {a} {b} {c} {past} {mid} {at} first count told next is so_far exact more = record {
+  later = omega (arith, so_far.later, more.later);
+  begun = so_far.later;
+  same = λ m x s le left. so_far.same m x s le (more.same m x s (omega (arith, le, so_far.later)) left);
+  until = λ m x s low high soon left. so_far.each m x s low (omega (arith, soon)) (more.same m x s (omega (arith, soon)) left);
+  since = λ m x s low high left. from x s (⊎_elim (λ lt. more.each m x s lt high left) (λ le. made-before (redo_start first count exact) x s (subst (λ (n : ℕ). mid n x s) (omega (arith, low, le)) (more.same m x s le left))) (cases_lt b m));
+}
+  where
+    from : (x s : List ℕ) → MadeFrom (RedoMakes first count) (mid b) next x s → MadeFrom (RedoMakes first count) (past a) told x s
+    from x s made = (λ y is_told. made.0 y (is ∙ is_told), (made.1.0, leaves-now so_far (λ x s left. left) made.1.0 s made.1.1))
 
 pub redone_between : {first count : ℕ} {old mid new last : Option (List ℕ)} → mid ≡ old → last ≡ new → IsRedone first count mid new → IsRedone first count old last
 redone_between same is done = record { has = λ y told. let h = done.has y (same ∙ told) in (h.0, is ∙ h.1, h.2, h.3) }

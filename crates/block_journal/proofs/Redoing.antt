@@ -2,7 +2,7 @@
 use Rattle.std.proofs.Common.{◌≡◌, inr, ⊎_elim, ℕ, ◌+◌, ◌*◌, ◌≤◌, Bool, true, cond, ◌==◌, List, [], ◌∷◌, length, get_or, sym, ◌∙◌, ap, arith}
 use Rattle.std.proofs.lemmas.Bool.{cases_Bool}
 use Rattle.hal_base.specs.Disk.{written, Torn}
-use Rattle.block_journal.specs.declared.change.Change.{Change}
+use Rattle.block_journal.specs.Change.{Change}
 use Rattle.block_journal.specs.Redo.{blocks_at, put_all, put_image, is_open, journal_of, redone}
 use Rattle.block_journal.specs.Commit.{IsSettled}
 use Rattle.block_journal.specs.Placing.{AreWhole, SameBut, Places}

@@ -3,16 +3,17 @@ use Rattle.std.proofs.Common.{◌≡◌, ◌⊎◌, inl, inr, ⊎_elim, ℕ, ◌
 use Rattle.std.proofs.lemmas.Bool.{cases_Bool, leb-true, le-leb, true≢false}
 use Rattle.std.proofs.lemmas.List.{append-nil}
 use Rattle.std.specs.Io.KnownBytes.{append_known}
+use Rattle.std.specs.BTreeMap.{insert_entry}
+use Rattle.std.specs.Ordering.{nat_cmp}
 use Rattle.hal_base.specs.Room.{HasRoom, HasSayRoom}
 use Rattle.hal_base.specs.StoreCalls.{StoreView, LeavesSame, NoCall}
 use Rattle.hal_base.specs.Stops.{LeavesOnly, IsTold, CommitLeaves, SayLeaves, SaidFrom, Read}
 use Rattle.hal_base.proofs.StopLemmas.{leaves-read, leaves-now, leaves-weaken}
-use Rattle.block_journal.specs.declared.change.Change.{Change}
+use Rattle.block_journal.specs.Change.{Change}
 use Rattle.block_journal.specs.Commit.{IsSettled, CommitMakes, HasChanges}
 use Rattle.block_journal.specs.Device.{Became, MadeFrom, IsExact}
 use Rattle.block_journal.specs.Front.{KeepsFront}
 use Rattle.block_journal.specs.Redo.{blocks_at, redone, put_all, are_changes}
-use Rattle.block_journal.specs.Staged.{put_in}
 use Rattle.block_journal.specs.Stands.{Stands, told_where, say_room}
 use Rattle.block_journal.specs.Steady.{IsSteady}
 use Rattle.block_journal.proofs.Made.{became-so}
@@ -20,11 +21,11 @@ use Rattle.block_journal.proofs.Rising.{are_few, put_in_blocks, put_in_changes}
 use Rattle.block_journal.specs.JournalLaw.{became-waits, keeps_refl, told_redone}
 
 -- a change more is staged, or none
-pub staged_rise : {E : Type 0} (result : Result (Unit {0}) E) (count n : ℕ) (b : List ℕ) (old new : List Change) → OnOk result (new ≡ put_in n b old) → OnErr result (new ≡ old) → n < count → length b ≡ 4096 → are_changes 0 count old ≡ true → are_changes 0 count new ≡ true
+pub staged_rise : {T E : Type 0} (result : Result T E) (count n : ℕ) (b : List ℕ) (old new : List Change) → OnOk result (new ≡ insert_entry nat_cmp old n b) → OnErr result (new ≡ old) → n < count → length b ≡ 4096 → are_changes 0 count old ≡ true → are_changes 0 count new ≡ true
 staged_rise (Ok x) count n b old new ok err below whole rise = subst (λ (l : List Change). are_changes 0 count l ≡ true) (sym ok) (put_in_changes 0 count n b old (omega arith) below whole rise)
 staged_rise (Err e) count n b old new ok err below whole rise = subst (λ (l : List Change). are_changes 0 count l ≡ true) (sym err) rise
 
-pub staged_list : (image : Option (List ℕ)) (count n : ℕ) (b : List ℕ) (old new : List Change) (kept : List (List ℕ)) → new ≡ put_in n b old → are_changes 0 count old ≡ true → told_where image (put_all new kept) ≡ option_map (λ blocks. set blocks n b) (told_where image (put_all old kept))
+pub staged_list : (image : Option (List ℕ)) (count n : ℕ) (b : List ℕ) (old new : List Change) (kept : List (List ℕ)) → new ≡ insert_entry nat_cmp old n b → are_changes 0 count old ≡ true → told_where image (put_all new kept) ≡ option_map (λ blocks. set blocks n b) (told_where image (put_all old kept))
 staged_list None count n b old new kept is rise = refl
 staged_list (Some x) count n b old new kept is rise = ap Some (ap (λ (l : List Change). put_all l kept) is ∙ put_in_blocks 0 count n b old kept rise)
 
@@ -158,10 +159,7 @@ none_rise count cs is = ap (are_changes 0 count) is
 pub few_changes : (count : ℕ) (cs : List Change) → are_changes 0 count cs ≡ true → length cs ≤ count
 few_changes count cs rise = omega (arith, are_few 0 count cs (omega arith) rise)
 
-pub commit_stands-of : {E : Type 0} (result : Result (Unit {0}) E) (first count : ℕ) (cs staged : List Change) {R : List ℕ → List ℕ → Type 0} (kept blocks : List (List ℕ)) (old new : Option (List ℕ)) (before outcomes : List ℕ → List ℕ → Type 0) → is_err result ≡ false → cs ≡ staged → blocks ≡ put_all staged kept → Stands first count kept old before → Became R old new → OnOk result (HasChanges first count cs old new) → OnOk result (IsExact new outcomes) → Stands first count blocks new outcomes
-commit_stands-of (Err e) first count cs staged kept blocks old new before outcomes went is made stands same changes exact = absurd (true≢false went)
-commit_stands-of (Ok x) first count cs staged kept blocks old new before outcomes went is made stands same changes exact =
-    subst (λ (l : List (List ℕ)). Stands first count l new outcomes) (sym made) (commit_stands first count staged kept old new before outcomes stands same (subst (λ (l : List Change). HasChanges first count l old new) is changes) exact)
-
-pub made_is : (cs staged : List Change) (kept blocks : List (List ℕ)) → cs ≡ staged → blocks ≡ put_all cs kept → blocks ≡ put_all staged kept
-made_is cs staged kept blocks is made = made ∙ ap (λ (l : List Change). put_all l kept) is
+pub commit_stands-of : {E : Type 0} (result : Result (Unit {0}) E) (first count : ℕ) (cs : List Change) {R : List ℕ → List ℕ → Type 0} (kept blocks : List (List ℕ)) (old new : Option (List ℕ)) (before outcomes : List ℕ → List ℕ → Type 0) → is_err result ≡ false → blocks ≡ put_all cs kept → Stands first count kept old before → Became R old new → OnOk result (HasChanges first count cs old new) → OnOk result (IsExact new outcomes) → Stands first count blocks new outcomes
+commit_stands-of (Err e) first count cs kept blocks old new before outcomes went made stands same changes exact = absurd (true≢false went)
+commit_stands-of (Ok x) first count cs kept blocks old new before outcomes went made stands same changes exact =
+    subst (λ (l : List (List ℕ)). Stands first count l new outcomes) (sym made) (commit_stands first count cs kept old new before outcomes stands same changes exact)

@@ -1,7 +1,7 @@
 -- What the steps of a commit make, and what they write.
 use Rattle.std.proofs.Common.{◌≡◌, inl, ℕ, ◌+◌, ◌-◌, ◌*◌, ◌^◌, ◌<◌, ◌≤◌, max, true, List, [], ◌∷◌, length, Option, Some, option_map, ◌∙◌, ap, subst, arith}
 use Rattle.hal_base.specs.Disk.{Torn, written}
-use Rattle.block_journal.specs.declared.change.Change.{Change}
+use Rattle.block_journal.specs.Change.{Change}
 use Rattle.block_journal.specs.Redo.{put_image, body_bytes, are_changes}
 use Rattle.block_journal.specs.Commit.{IsSettled, CommitMakes, HasChanges, last_byte}
 use Rattle.block_journal.specs.Device.{IsExact}

@@ -6,7 +6,7 @@ use Rattle.std.proofs.lemmas.List.{get_or_append_left, get_or-append-add}
 use Rattle.std.proofs.lemmas.Nat.{from_be_bytes-to_be_bytes_4}
 use Rattle.std.proofs.lemmas.Bool.{cases_Bool}
 use Rattle.hal_base.specs.Disk.{written, Torn}
-use Rattle.block_journal.specs.declared.change.Change.{Change}
+use Rattle.block_journal.specs.Change.{Change}
 use Rattle.block_journal.specs.Redo.{number_at, blocks_at, changes_at, put_all, put_image, is_open, journal_of, redone, change_bytes, body_bytes, are_changes}
 use Rattle.block_journal.proofs.Images.{SameOutside, bytes_at-is, torn_outside, written_inside, written_outside, length-written, length-written_le}
 use Rattle.block_journal.specs.Body.{HasBody}

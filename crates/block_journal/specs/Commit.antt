@@ -1,6 +1,6 @@
 -- What a commit begins and ends with, and what a stop within it may leave.
 use Rattle.std.specs.Prelude.{◌≡◌, ◌⊎◌, ℕ, ◌+◌, ◌*◌, ◌≤◌, max, false, List, length, Option, Some}
-use Rattle.block_journal.specs.declared.change.Change.{Change}
+use Rattle.block_journal.specs.Change.{Change}
 use Rattle.block_journal.specs.Front.{KeepsFront}
 use Rattle.block_journal.specs.Redo.{blocks_at, journal_start, is_open, put_all, redone}
 

@@ -7,7 +7,7 @@ use Rattle.std.proofs.lemmas.List.Elements.{All-set}
 use Rattle.hal_base.specs.StoreCalls.{AreBlocks}
 use Rattle.hal_base.specs.Stops.{LeavesExactly, IsTold, Read}
 use Rattle.hal_base.proofs.StopLemmas.{not_yet, leaves-then}
-use Rattle.block_journal.specs.declared.change.Change.{Change}
+use Rattle.block_journal.specs.Change.{Change}
 use Rattle.block_journal.specs.Device.{Became}
 use Rattle.block_journal.specs.Front.{KeepsFront}
 use Rattle.block_journal.specs.Placing.{AreWhole}
@@ -18,7 +18,7 @@ use Rattle.block_journal.specs.Steady.{IsSteady}
 pub length-put_all : (cs : List Change) (blocks : List (List ℕ)) → length (put_all cs blocks) ≡ length blocks
 unfolding put_all
 length-put_all [] blocks = refl
-length-put_all (c ∷ cs) blocks = length-put_all cs (set blocks c.number c.content) ∙ length-set blocks c.number c.content
+length-put_all (c ∷ cs) blocks = length-put_all cs (set blocks c.0 c.1) ∙ length-set blocks c.0 c.1
 
 pub put_all-none : (blocks : List (List ℕ)) → put_all [] blocks ≡ blocks
 unfolding put_all
@@ -26,24 +26,24 @@ put_all-none blocks = refl
 
 -- what the test says of the first change and of the others
 pub record Parts (from count : ℕ) (c : Change) (cs : List Change) : Type 0 where
-  pub low : from ≤ c.number
-  pub high : c.number < count
-  pub whole : length c.content ≡ 4096
-  pub rest : are_changes (c.number + 1) count cs ≡ true
+  pub low : from ≤ c.0
+  pub high : c.0 < count
+  pub whole : length c.1 ≡ 4096
+  pub rest : are_changes (c.0 + 1) count cs ≡ true
 
 pub parts : (from count : ℕ) (c : Change) (cs : List Change) → are_changes from count (c ∷ cs) ≡ true → Parts from count c cs
 unfolding are_changes
 parts from count c cs is =
-    let a = and_parts (nat_le from c.number && nat_lt c.number count && length c.content == 4096) (are_changes (c.number + 1) count cs) is in
-    let b = and_parts (nat_le from c.number && nat_lt c.number count) (length c.content == 4096) a.0 in
-    let d = and_parts (nat_le from c.number) (nat_lt c.number count) b.0 in
-    record { low = leb-true from c.number d.0; high = ltb-true c.number count d.1; whole = eqb-true (length c.content) 4096 b.1; rest = a.1 }
+    let a = and_parts (nat_le from c.0 && nat_lt c.0 count && length c.1 == 4096) (are_changes (c.0 + 1) count cs) is in
+    let b = and_parts (nat_le from c.0 && nat_lt c.0 count) (length c.1 == 4096) a.0 in
+    let d = and_parts (nat_le from c.0) (nat_lt c.0 count) b.0 in
+    record { low = leb-true from c.0 d.0; high = ltb-true c.0 count d.1; whole = eqb-true (length c.1) 4096 b.1; rest = a.1 }
 
 pub are_whole : (from count : ℕ) (cs : List Change) → are_changes from count cs ≡ true → AreWhole count cs
 are_whole from count [] is = tt
 are_whole from count (c ∷ cs) is =
     let p = parts from count c cs is in
-    (p.high, p.whole, are_whole (c.number + 1) count cs p.rest)
+    (p.high, p.whole, are_whole (c.0 + 1) count cs p.rest)
 
 pub redone_closed : (first count : ℕ) (x : List ℕ) → is_open x ≡ false → redone first count x ≡ blocks_at first count x
 unfolding redone
@@ -78,7 +78,7 @@ standing_is first count kept (Some y) outcomes stands = ap Some (redone_closed f
 put_all_whole : (count : ℕ) (cs : List Change) (kept : List (List ℕ)) → AreWhole count cs → All (λ block. length block ≡ 4096) kept → All (λ block. length block ≡ 4096) (put_all cs kept)
 unfolding put_all
 put_all_whole count [] kept whole each = each
-put_all_whole count (c ∷ cs) kept whole each = put_all_whole count cs (set kept c.number c.content) whole.2 (All-set (λ (block : List ℕ). length block ≡ 4096) kept c.number c.content whole.1 each)
+put_all_whole count (c ∷ cs) kept whole each = put_all_whole count cs (set kept c.0 c.1) whole.2 (All-set (λ (block : List ℕ). length block ≡ 4096) kept c.0 c.1 whole.1 each)
 
 pub put_all-whole : (count : ℕ) (cs : List Change) (kept : List (List ℕ)) → are_changes 0 count cs ≡ true → All (λ block. length block ≡ 4096) kept → All (λ block. length block ≡ 4096) (put_all cs kept)
 put_all-whole count cs kept rise each = put_all_whole count cs kept (are_whole 0 count cs rise) each

@@ -1,4 +1,5 @@
 pub mod Body
+pub mod Change
 pub mod Commit
 pub mod Device
 pub mod Front
@@ -8,6 +9,5 @@ pub mod Placing
 pub mod Reads
 pub mod Redo
 pub mod Redoing
-pub mod Staged
 pub mod Stands
 pub mod Steady

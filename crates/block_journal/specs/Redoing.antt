@@ -1,6 +1,6 @@
 -- What an opening makes of an image, and what a stop within it may leave.
-use Rattle.std.specs.Prelude.{◌≡◌, ◌⊎◌, ℕ, ◌≤◌, true, List, length, Option, Some}
-use Rattle.block_journal.specs.declared.change.Change.{Change}
+use Rattle.std.specs.Prelude.{◌≡◌, ℕ, ◌<◌, ◌≤◌, true, List, length, Option, Some}
+use Rattle.block_journal.specs.Change.{Change}
 use Rattle.block_journal.specs.Body.{HasBody}
 use Rattle.block_journal.specs.Commit.{IsSettled}
 use Rattle.block_journal.specs.Device.{MadeFrom}
@@ -27,9 +27,15 @@ pub record SameRedo (first count : ℕ) (before after : Option (List ℕ)) : Typ
 abbrev pub RedoMakes : ℕ → ℕ → List ℕ → List ℕ → Type 0
 RedoMakes first count old image = journal_start first count ≤ length old → (redone first count image ≡ redone first count old) × KeepsFront first count old image
 
--- what may be left of an opening: what might have been left before it, or the same redo; and what was said
-abbrev pub OpeningLeaves : (List ℕ → List ℕ → Type 0) → Option (List ℕ) → ℕ → ℕ → List ℕ → List ℕ → Type 0
-OpeningLeaves outcomes told first count image said = outcomes image said ⊎ MadeFrom (RedoMakes first count) outcomes told image said
+-- The first sync of an opening returned at this moment, or never where the moment lies behind the opening's end. Until
+-- then a stop leaves what one at the start might have left, and from then on what an opening makes of the image that
+-- was told.
+pub record OpensAt (first count : ℕ) (told : Option (List ℕ)) (before now : ℕ) (past at : ℕ → List ℕ → List ℕ → Type 0) (synced : ℕ) : Type 0 where
+  pub later : before ≤ now
+  pub begun : before ≤ synced
+  pub same : (m : ℕ) (image said : List ℕ) → m ≤ before → at m image said → past m image said
+  pub until : (m : ℕ) (image said : List ℕ) → before < m → m ≤ now → m < synced → at m image said → past before image said
+  pub since : (m : ℕ) (image said : List ℕ) → synced ≤ m → m ≤ now → at m image said → MadeFrom (RedoMakes first count) (past before) told image said
 
 -- the image that is told has an open gate, and no body behind its blocks
 abbrev pub IsDamaged : ℕ → ℕ → Option (List ℕ) → Type 0

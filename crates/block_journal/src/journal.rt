@@ -3,21 +3,22 @@ ghost use Rattle.std.specs.Prelude.{◌≡◌, ◌≤◌, ◌^◌, ◌<◌, ◌%
 ghost use Rattle.std.specs.Option.{option_map};
 ghost use Rattle.hal_base.specs.Fault.{Rose};
 ghost use Rattle.hal_base.specs.Room.{HasRoom};
-ghost use Rattle.hal_base.specs.Stops.{LeavesOnly, Read};
+ghost use Rattle.hal_base.specs.Stops.{Read};
 ghost use Rattle.block_journal.specs.Commit.{last_byte};
 ghost use Rattle.block_journal.specs.Redo.{are_changes, put_all, redone};
 ghost use Rattle.block_journal.specs.Device.{Became};
-ghost use Rattle.block_journal.specs.Redoing.{IsRedone, SameRedo, RedoMakes, OpeningLeaves, IsDamaged, IsSound};
+ghost use Rattle.block_journal.specs.Redoing.{IsRedone, SameRedo, RedoMakes, OpensAt, IsDamaged, IsSound};
 ghost use Rattle.block_journal.specs.Stands.{Stands, told_where, say_room};
 ghost use Rattle.block_journal.specs.Steady.{IsSteady};
 
-use crate::Change;
+use crate::change::Changes;
 use crate::fault::{OpenFault, OpenWhy};
 use crate::open::load;
 use crate::protocol::commit_changes;
-use crate::staged::{copy_block, make_body, make_changes, put_change};
+use crate::staged::{copy_block, make_body, make_changes};
 use hal_base::{BLOCK, Blocks, Failed, JournalFault, Live, Site, StageFault, Store};
 use std::alloc::Global;
+use std::collections::BTreeMap;
 
 /// Blocks that stand in an image from `first` on, with their journal behind them. All of them are held in
 /// memory, and beside them what is staged.
@@ -27,14 +28,14 @@ pub struct Journal<T: Site> {
     first: u64,
     count: u32,
     kept: Vec<[u8; BLOCK]>,
-    staged: Vec<Change>,
+    staged: Changes,
     fetches: u64,
     live: bool,
     ghost behind: { 8192 ≤ first },
     ghost near: { first ≤ 2 ^ 30 },
     ghost counted: { length kept.items ≡ count },
     ghost whole: { All (λ block. length block ≡ 4096) kept.items },
-    ghost rise: { IsTrue (are_changes 0 count staged.items) },
+    ghost rise: { are_changes 0 count staged.entries ≡ true },
     ghost stands: { IsTrue live → Stands first count kept.items (T.image site) (T.left_at site (T.moment site)) },
 }
 
@@ -64,7 +65,7 @@ impl<T: Site> Journal<T> {
         ensures memory { IfErr result (λ fault. fault.why ≡ OpenWhy.Memory → SameRedo first count (T.image site) (T.image fault.site)) }
         ensures told { MatchResult result (λ journal. Became (RedoMakes first count) (T.image site) (T.image journal.site)) (λ fault. Became (RedoMakes first count) (T.image site) (T.image fault.site)) }
         ensures said { MatchResult result (λ journal. T.said journal.site ≡ T.said site) (λ fault. T.said fault.site ≡ T.said site) }
-        ensures stops { MatchResult result (λ journal. LeavesOnly (T.moment site) (T.moment journal.site) (T.left_at site) (T.left_at journal.site) (OpeningLeaves (T.left_at site (T.moment site)) (T.image site) first count)) (λ fault. LeavesOnly (T.moment site) (T.moment fault.site) (T.left_at site) (T.left_at fault.site) (OpeningLeaves (T.left_at site (T.moment site)) (T.image site) first count)) }
+        ensures stops { MatchResult result (λ journal. (synced : ℕ) × (synced ≤ T.moment journal.site) × OpensAt first count (T.image site) (T.moment site) (T.moment journal.site) (T.left_at site) (T.left_at journal.site) synced) (λ fault. (synced : ℕ) × OpensAt first count (T.image site) (T.moment site) (T.moment fault.site) (T.left_at site) (T.left_at fault.site) synced) }
         ensures later { MatchResult result (λ journal. T.disk_faults site ≤ T.disk_faults journal.site) (λ fault. T.disk_faults site ≤ T.disk_faults fault.site) }
         ensures say_faults { MatchResult result (λ journal. T.say_faults journal.site ≡ T.say_faults site) (λ fault. T.say_faults fault.site ≡ T.say_faults site) }
         ensures room { MatchResult result (λ journal. HasRoom (T.room site) (T.room journal.site) (T.disk_faults site) (T.disk_faults journal.site) (λ room. last_byte first count ≤ room.0)) (λ fault. HasRoom (T.room site) (T.room fault.site) (T.disk_faults site) (T.disk_faults fault.site) (λ room. last_byte first count ≤ room.0)) }
@@ -75,7 +76,7 @@ impl<T: Site> Journal<T> {
                 first,
                 count,
                 kept,
-                staged: Vec::new(alloc),
+                staged: BTreeMap::new(alloc),
                 fetches: 0,
                 live: true,
             }),
@@ -115,7 +116,7 @@ impl<T: Site> Blocks for Journal<T> {
     ghost use Rattle.block_journal.specs.JournalLaw.{told_shaped, alike, clean_list, standing_is, stands_exactly, steady_same, steady_more};
 
     ghost seen = { λ j. record {
-      list = told_where (T.image j.site) (put_all j.staged.items j.kept.items);
+      list = told_where (T.image j.site) (put_all j.staged.entries j.kept.items);
       committed = told_where (T.image j.site) j.kept.items;
       standing = option_map (redone j.first j.count) (T.image j.site);
       number = j.count;
@@ -126,7 +127,7 @@ impl<T: Site> Blocks for Journal<T> {
       say_faults = T.say_faults j.site;
       room = say_room (last_byte j.first j.count) (T.room j.site);
       fetches = j.fetches;
-      clean = length j.staged.items == 0;
+      clean = length j.staged.entries == 0;
       live = j.live;
     } };
 
@@ -134,11 +135,11 @@ impl<T: Site> Blocks for Journal<T> {
 
     ghost alive = { λ j. refl };
 
-    ghost shaped = { λ j. told_shaped (T.image j.site) j.count j.staged.items j.kept.items j.rise j.counted j.whole };
+    ghost shaped = { λ j. told_shaped (T.image j.site) j.count j.staged.entries j.kept.items j.rise j.counted j.whole };
 
-    ghost told_alike = { λ j. alike (T.image j.site) (put_all j.staged.items j.kept.items) j.kept.items };
+    ghost told_alike = { λ j. alike (T.image j.site) (put_all j.staged.entries j.kept.items) j.kept.items };
 
-    ghost clean_is = { λ j clean. clean_list (T.image j.site) j.staged.items j.kept.items clean };
+    ghost clean_is = { λ j clean. clean_list (T.image j.site) j.staged.entries j.kept.items clean };
 
     ghost stands = { λ j live. standing_is j.first j.count j.kept.items (T.image j.site) (T.left_at j.site (T.moment j.site)) (j.stands live) };
 
@@ -159,8 +160,8 @@ impl<T: Site> Blocks for Journal<T> {
     }
 
     fn stage(&mut self, n: u32, from: &[u8; BLOCK]) -> Result<(), StageFault> {
-        match put_change(&mut self.staged, n, from) {
-            Ok(()) => Ok(()),
+        match self.staged.insert(n, *from) {
+            Ok(_) => Ok(()),
             Err(_) => Err(StageFault::Memory),
         }
     }
@@ -172,7 +173,7 @@ impl<T: Site> Store for Journal<T> {
         if self.staged.is_empty() {
             return Ok(());
         }
-        let Ok(body) = make_body(*self.staged.allocator(), &self.staged) else {
+        let Ok(body) = make_body(*self.kept.allocator(), &self.staged) else {
             return Err(JournalFault::Memory);
         };
         let done = commit_changes(&mut self.site, self.first, count, &self.staged, &body);

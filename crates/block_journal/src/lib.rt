@@ -11,6 +11,5 @@ mod protocol;
 mod redo;
 mod staged;
 
-pub use change::Change;
 pub use fault::{OpenFault, OpenWhy};
 pub use journal::Journal;

@@ -7,7 +7,7 @@ ghost use Rattle.block_journal.specs.Device.{Became, MadeFrom, IsExact};
 ghost use Rattle.block_journal.specs.Opening.{ReadsBlock, ReadsBlocks, IsReady};
 ghost use Rattle.block_journal.specs.Commit.{last_byte};
 ghost use Rattle.block_journal.specs.Redo.{journal_start, is_open};
-ghost use Rattle.block_journal.specs.Redoing.{IsRedone, SameRedo, RedoMakes, OpeningLeaves, IsDamaged, IsSound};
+ghost use Rattle.block_journal.specs.Redoing.{IsRedone, SameRedo, RedoMakes, OpensAt, IsDamaged, IsSound};
 ghost use Rattle.block_journal.specs.Stands.{Stands};
 
 use crate::device::{place_of, write_synced};
@@ -115,7 +115,7 @@ pub(crate) fn load<T: Site>(
     ensures memory { IsErrOf result LoadFault.Memory → SameRedo first count (T.image site.old) (T.image site.new) }
     ensures told { Became (RedoMakes first count) (T.image site.old) (T.image site.new) }
     ensures said { T.said site.new ≡ T.said site.old }
-    ensures stops { LeavesOnly (T.moment site.old) (T.moment site.new) (T.left_at site.old) (T.left_at site.new) (OpeningLeaves (T.left_at site.old (T.moment site.old)) (T.image site.old) first count) }
+    ensures stops { (synced : ℕ) × OnOk result (synced ≤ T.moment site.new) × OpensAt first count (T.image site.old) (T.moment site.old) (T.moment site.new) (T.left_at site.old) (T.left_at site.new) synced }
     ensures cause { HasCauseFor (T.disk_faults site.old) (T.disk_faults site.new) result LoadFault.DiskFault }
     ensures say_faults { T.say_faults site.new ≡ T.say_faults site.old }
     ensures room { HasRoom (T.room site.old) (T.room site.new) (T.disk_faults site.old) (T.disk_faults site.new) (λ room. last_byte first count ≤ room.0) }

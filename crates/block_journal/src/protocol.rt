@@ -13,7 +13,7 @@ ghost use Rattle.block_journal.specs.Commit.{IsSettled, CommitMakes, HasChanges,
 ghost use Rattle.block_journal.specs.Device.{Became, MadeFrom, IsExact};
 ghost use Rattle.block_journal.specs.Redo.{are_changes, body_bytes};
 
-use crate::Change;
+use crate::change::Changes;
 use crate::device::{place_of, write_blocks, write_synced};
 use hal_base::{Failed, Site};
 
@@ -25,21 +25,21 @@ pub(crate) fn commit_changes<T: Site>(
     site: &mut T,
     first: u64,
     count: u32,
-    changes: &[Change],
+    changes: &Changes,
     body: &[u8],
 ) -> Result<(), Failed>
     requires behind { 8192 ≤ first }
     requires near { first ≤ 2 ^ 30 }
-    requires rise { IsTrue (are_changes 0 count changes.now) }
-    requires some { 1 ≤ length changes.now }
-    requires body { body.now ≡ body_bytes changes.now }
+    requires rise { IsTrue (are_changes 0 count changes.now.entries) }
+    requires some { 1 ≤ length changes.now.entries }
+    requires body { body.now ≡ body_bytes changes.now.entries }
     requires settled { (image : List ℕ) → T.image site.old ≡ Some image → IsSettled first count image }
     requires exact { IsExact (T.image site.old) (T.left_at site.old (T.moment site.old)) }
-    ensures done { OnOk result (HasChanges first count changes.now (T.image site.old) (T.image site.new)) }
+    ensures done { OnOk result (HasChanges first count changes.now.entries (T.image site.old) (T.image site.new)) }
     ensures exact { OnOk result (IsExact (T.image site.new) (T.left_at site.new (T.moment site.new))) }
-    ensures told { Became (CommitMakes first count changes.now) (T.image site.old) (T.image site.new) }
+    ensures told { Became (CommitMakes first count changes.now.entries) (T.image site.old) (T.image site.new) }
     ensures said { T.said site.new ≡ T.said site.old }
-    ensures stops { LeavesOnly (T.moment site.old) (T.moment site.new) (T.left_at site.old) (T.left_at site.new) (MadeFrom (CommitMakes first count changes.now) (T.left_at site.old (T.moment site.old)) (T.image site.old)) }
+    ensures stops { LeavesOnly (T.moment site.old) (T.moment site.new) (T.left_at site.old) (T.left_at site.new) (MadeFrom (CommitMakes first count changes.now.entries) (T.left_at site.old (T.moment site.old)) (T.image site.old)) }
     ensures cause { HasCause (T.disk_faults site.old) (T.disk_faults site.new) result }
     ensures say_faults { T.say_faults site.new ≡ T.say_faults site.old }
     ensures room { HasRoom (T.room site.old) (T.room site.new) (T.disk_faults site.old) (T.disk_faults site.new) (λ room. last_byte first count ≤ room.0) }

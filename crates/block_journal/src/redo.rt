@@ -12,8 +12,8 @@ ghost use Rattle.block_journal.specs.Reads.{LacksBody};
 ghost use Rattle.block_journal.specs.Redo.{is_open};
 ghost use Rattle.block_journal.specs.Redoing.{IsToRedo, IsRedone, RedoMakes, IsDamaged, IsSound};
 
-use crate::Change;
 use crate::body::read_body;
+use crate::change::Changes;
 use crate::device::{write_blocks, write_synced};
 use crate::fault::LoadFault;
 use crate::open::{fill, read_gate};
@@ -26,12 +26,12 @@ fn redo_changes<T: Site>(
     site: &mut T,
     first: u64,
     count: u32,
-    changes: &[Change],
+    changes: &Changes,
 ) -> Result<(), Failed>
     requires behind { 8192 ≤ first }
     requires near { first ≤ 2 ^ 30 }
-    requires whole { AreWhole count changes.now }
-    requires redo { (image : List ℕ) → T.image site.old ≡ Some image → IsToRedo first count changes.now image }
+    requires whole { AreWhole count changes.now.entries }
+    requires redo { (image : List ℕ) → T.image site.old ≡ Some image → IsToRedo first count changes.now.entries image }
     requires exact { IsExact (T.image site.old) (T.left_at site.old (T.moment site.old)) }
     ensures done { OnOk result (IsRedone first count (T.image site.old) (T.image site.new)) }
     ensures exact { OnOk result (IsExact (T.image site.new) (T.left_at site.new (T.moment site.new))) }

@@ -1,7 +1,3 @@
-use Rattle.std.proofs.Common.{sym, subst, List}
-use Rattle.block_journal.specs.declared.change.Change.{Change}
-use Rattle.block_journal.specs.Placing.{AreWhole}
-use Rattle.block_journal.specs.Reads.{ReadsBody}
 use Rattle.block_journal.proofs.Calls.{exact-stays}
 use Rattle.block_journal.proofs.Made.{made-waits, made-later, became-later}
 use Rattle.block_journal.proofs.OpeningSteps.{redo_start, redo_waits, read_to_redo}
@@ -12,11 +8,10 @@ pub returns-in_err-changes-clause-stops : goal.returns-in_err-changes-clause-sto
 returns-in_err-changes-clause-stops g c = made-waits (redo_start c.args.first c.args.count c.requires.exact) c.read_body.ensures.stops
 
 pub redo_changes-requires-clause-whole : goal.redo_changes-requires-clause-whole
-redo_changes-requires-clause-whole g c = subst (λ (l : List Change). AreWhole c.args.count l) (sym c.deref.ensures.value) (are_whole 0 c.args.count c.in_ok-changes.changes.items c.in_ok-changes.ensures.rise)
+redo_changes-requires-clause-whole g c = are_whole 0 c.args.count c.in_ok-changes.changes.entries c.in_ok-changes.ensures.rise
 
 pub redo_changes-requires-clause-redo : goal.redo_changes-requires-clause-redo
-redo_changes-requires-clause-redo g c = read_to_redo c.args.first c.args.count c.deref.result.now (g.T.Site.image c.args.site.now) (g.T.Site.image c.read_body.new.site)
-    (subst (λ (l : List Change). ReadsBody c.args.first c.args.count (g.T.Site.image c.args.site.now) l) (sym c.deref.ensures.value) c.in_ok-changes.ensures.body) c.requires.opened c.read_body.ensures.image
+redo_changes-requires-clause-redo g c = read_to_redo c.args.first c.args.count c.in_ok-changes.changes.entries (g.T.Site.image c.args.site.now) (g.T.Site.image c.read_body.new.site) c.in_ok-changes.ensures.body c.requires.opened c.read_body.ensures.image
 
 pub redo_changes-requires-clause-exact : goal.redo_changes-requires-clause-exact
 redo_changes-requires-clause-exact g c = exact-stays c.read_body.ensures.image c.requires.exact c.read_body.ensures.stops

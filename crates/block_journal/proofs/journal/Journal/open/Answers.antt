@@ -10,7 +10,7 @@ invariant_of-result g c = record {
   near = c.requires.near;
   counted = c.in-Ok.ensures.count;
   whole = c.in-Ok.ensures.whole;
-  rise = none_rise c.args.count c.new.result.items c.new.ensures.items;
+  rise = none_rise c.args.count c.new.result.entries c.new.ensures.empty;
   stands = λ live. c.in-Ok.ensures.stands;
 }
 
@@ -19,5 +19,5 @@ returns-in-Ok-clause-committed g c = opened_list c.args.first c.args.count c.in-
 
 pub returns-in-Ok-clause-list : goal.returns-in-Ok-clause-list
 returns-in-Ok-clause-list g c =
-    none_list (g.T.Site.image c.load.new.site) c.new.result.items c.in-Ok.kept.items c.new.ensures.items
+    none_list (g.T.Site.image c.load.new.site) c.new.result.entries c.in-Ok.kept.items c.new.ensures.empty
     ∙ opened_list c.args.first c.args.count c.in-Ok.kept.items (g.T.Site.image c.args.site) (g.T.Site.image c.load.new.site) (g.T.Site.left_at c.load.new.site (g.T.Site.moment c.load.new.site)) c.load.ensures.told c.in-Ok.ensures.redone c.in-Ok.ensures.stands

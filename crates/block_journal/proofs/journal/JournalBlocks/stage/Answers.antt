@@ -10,9 +10,9 @@ invariant_of-self g c =
       near = c.args.self.now.near;
       counted = c.args.self.now.counted;
       whole = c.args.self.now.whole;
-      rise = staged_rise c.put_change.result c.args.self.now.count c.args.n c.args.from.now c.args.self.now.staged.items c.put_change.new.changes.items c.put_change.ensures.ok c.put_change.ensures.err c.requires.below long c.args.self.now.rise;
+      rise = staged_rise c.insert.result c.args.self.now.count c.args.n c.args.from.now c.args.self.now.staged.entries c.insert.new.self.entries c.insert.ensures.entries c.insert.ensures.err c.requires.below long c.args.self.now.rise;
       stands = c.args.self.now.stands;
     }
 
 pub returns-in-Ok-clause-list : goal.returns-in-Ok-clause-list
-returns-in-Ok-clause-list g c = staged_list (g.T.Site.image c.args.self.now.site) c.args.self.now.count c.args.n c.args.from.now c.args.self.now.staged.items c.put_change.new.changes.items c.args.self.now.kept.items c.in-Ok.ensures.ok c.args.self.now.rise
+returns-in-Ok-clause-list g c = staged_list (g.T.Site.image c.args.self.now.site) c.args.self.now.count c.args.n c.args.from.now c.args.self.now.staged.entries c.insert.new.self.entries c.args.self.now.kept.items c.in-Ok.ensures.entries c.args.self.now.rise

@@ -1,6 +1,6 @@
 use Rattle.std.proofs.Common.{◌==◌, List, length, refl, ap, arith}
 use Rattle.hal_base.proofs.StopLemmas.{not_yet}
-use Rattle.block_journal.specs.declared.change.Change.{Change}
+use Rattle.block_journal.specs.Change.{Change}
 use Rattle.block_journal.specs.Commit.{last_byte}
 use Rattle.block_journal.specs.Stands.{say_room}
 use Rattle.block_journal.specs.JournalLaw.{none_list}
@@ -13,14 +13,14 @@ invariant_of-self g c = record {
   near = c.args.self.now.near;
   counted = c.args.self.now.counted;
   whole = c.args.self.now.whole;
-  rise = none_rise c.args.self.now.count c.clear.new.self.items c.clear.ensures.items;
+  rise = none_rise c.args.self.now.count c.clear.new.self.entries c.clear.ensures.empty;
   stands = c.args.self.now.stands;
 }
 
 pub returns-clause-forgets : goal.returns-clause-forgets
 returns-clause-forgets g c = record {
-  list = none_list (g.T.Site.image c.args.self.now.site) c.clear.new.self.items c.args.self.now.kept.items c.clear.ensures.items;
-  cleaned = ap (λ (l : List Change). length l == 0) c.clear.ensures.items;
+  list = none_list (g.T.Site.image c.args.self.now.site) c.clear.new.self.entries c.args.self.now.kept.items c.clear.ensures.empty;
+  cleaned = ap (λ (l : List Change). length l == 0) c.clear.ensures.empty;
   same = record {
     number = refl;
     committed = refl;
