@@ -1,5 +1,6 @@
 -- What the reads of a journal's body give.
 use Rattle.std.proofs.Common.{◌≡◌, ℕ, zero, suc, ◌+◌, ◌*◌, ◌<◌, ◌≤◌, Bool, true, ◌==◌, List, [], ◌∷◌, ◌++◌, length, get_or, take, drop, Option, None, Some, refl, sym, ◌∙◌, ap, subst, arith, length-drop}
+use Rattle.std.proofs.lemmas.Option.{none-some, same_Some}
 use Rattle.std.specs.Prelude.{IfSome}
 use Rattle.std.specs.Int.{w32, from_be_bytes}
 use Rattle.std.proofs.lemmas.List.{length-take, take_all, get_or-take, get_or-drop}
@@ -14,17 +15,11 @@ use Rattle.block_journal.proofs.Images.{bytes_at-is}
 use Rattle.block_journal.proofs.Rising.{least_of, put_in_last, joined, are_few}
 use Rattle.block_journal.specs.JournalLaw.{parts}
 
-none_told : (z : List ℕ) → None ≡ Some z → ⊥
-none_told z is = cc
-
-some_is : (x y : List ℕ) → Some x ≡ Some y → x ≡ y
-some_is x y is = cc
-
 pub whole_read : (at n : ℕ) (buf : List ℕ) (image : Option (List ℕ)) (whole : Bool) → IfSome image (λ bytes. take n buf ≡ take (length buf) (drop at bytes)) → 0 < length buf → n ≤ length buf → whole ≡ (n == length buf) → ReadsWhole at image whole buf
-whole_read at n buf None whole read some within is = record { is = λ w y told. absurd (none_told y told); short = λ w y told. absurd (none_told y told) }
+whole_read at n buf None whole read some within is = record { is = λ w y told. absurd (none-some y told); short = λ w y told. absurd (none-some y told) }
 whole_read at n buf (Some x) whole read some within is = record {
-  is = λ w y told. subst (λ (y : List ℕ). (at + length buf ≤ length y) × (buf ≡ bytes_at at (length buf) y)) (some_is x y told) (full (eqb-true n (length buf) (sym is ∙ w)));
-  short = λ w y told. subst (λ (y : List ℕ). length y < at + length buf) (some_is x y told) (cut (λ all. true≢false (sym (is ∙ eq-eqb n (length buf) all) ∙ w)));
+  is = λ w y told. subst (λ (y : List ℕ). (at + length buf ≤ length y) × (buf ≡ bytes_at at (length buf) y)) (same_Some x y told) (full (eqb-true n (length buf) (sym is ∙ w)));
+  short = λ w y told. subst (λ (y : List ℕ). length y < at + length buf) (same_Some x y told) (cut (λ all. true≢false (sym (is ∙ eq-eqb n (length buf) all) ∙ w)));
 }
   where
     full : n ≡ length buf → (at + length buf ≤ length x) × (buf ≡ bytes_at at (length buf) x)
@@ -39,11 +34,11 @@ whole_read at n buf (Some x) whole read some within is = record {
 
 pub number_read : (at number : ℕ) (bytes : List ℕ) (image : Option (List ℕ)) (whole : Bool) → number ≡ from_be_bytes w32 bytes → length bytes ≡ 4 → whole ≡ true → ReadsWhole at image whole bytes → ReadsNumber at image (Some number)
 unfolding number_at
-number_read at number bytes image whole number_is four is read = record {
+number_read at number bytes image whole same_Some four is read = record {
   is = λ n same y told.
       let r = read.is is y told in
       let same_number : number ≡ n = cc in
-      (omega (arith, r.0, four), sym same_number ∙ number_is ∙ ap (from_be_bytes w32) (r.1 ∙ ap (λ (k : ℕ). bytes_at at k y) four));
+      (omega (arith, r.0, four), sym same_number ∙ same_Some ∙ ap (from_be_bytes w32) (r.1 ∙ ap (λ (k : ℕ). bytes_at at k y) four));
   short = λ none. cc;
 }
 

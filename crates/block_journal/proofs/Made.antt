@@ -1,5 +1,6 @@
 -- How what is made of an image goes on over calls of the site, where R is all that they make of it.
-use Rattle.std.proofs.Common.{◌≡◌, ℕ, List, Option, None, Some, option_map, sym, ◌∙◌, ap, subst}
+use Rattle.std.proofs.Common.{◌≡◌, ℕ, List, Option, None, Some, option_map, refl, sym, ◌∙◌, ap, subst}
+use Rattle.std.proofs.lemmas.Option.{none-some, same_Some}
 use Rattle.hal_base.specs.Stops.{LeavesOnly}
 use Rattle.hal_base.proofs.StopLemmas.{not_yet, leaves-then, leaves-now, leaves-weaken}
 use Rattle.block_journal.specs.Device.{Became, MadeFrom, IsExact}
@@ -35,6 +36,9 @@ module _ {R : List ℕ → List ℕ → Type 0} {image : Option (List ℕ)} {a :
     (leaves-now chain.stops (made-before chain.start) from.0 s from.1).1,
   ))
 
+  pub chain-made : {c : ℕ} {at : ℕ → List ℕ → List ℕ → Type 0} → LeavesOnly b c mid at (MadeFrom S (mid b) next) → LeavesOnly a c past at (MadeFrom R (past a) image)
+  chain-made more = leaves-then chain.stops more (λ x s from. (λ y told. so y x told (from.0 (f y) (chain.is y told)), (leaves-now chain.stops (made-before chain.start) from.1.0 s from.1.1).1))
+
   pub chain-told : {last : Option (List ℕ)} → Became S next last → Became R image last
   chain-told more = record {
     told = λ y told.
@@ -51,6 +55,11 @@ module _ {R : List ℕ → List ℕ → Type 0} {image : Option (List ℕ)} {a :
     exact = exact;
     stops = chain-stops more;
   }
+
+-- what holds of f of the image that was told holds of the image that is told now
+pub chain-now : (image next : Option (List ℕ)) (f : List ℕ → List ℕ) (P : List ℕ → Type 0) → ((y : List ℕ) → image ≡ Some y → next ≡ Some (f y)) → (image ≡ None → next ≡ None) → ((y : List ℕ) → image ≡ Some y → P (f y)) → (z : List ℕ) → next ≡ Some z → P z
+chain-now None next f P is untold holds z told = absurd (none-some z (sym (untold refl) ∙ told))
+chain-now (Some y) next f P is untold holds z told = subst P (same_Some (f y) z (sym (is y refl) ∙ told)) (holds y refl)
 
 -- a step that makes less
 pub became-so : {R S : List ℕ → List ℕ → Type 0} {old new : Option (List ℕ)} → Became S old new → ((y x : List ℕ) → old ≡ Some y → S y x → R y x) → Became R old new

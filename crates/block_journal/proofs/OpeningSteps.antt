@@ -1,5 +1,6 @@
 -- How an opening goes on from step to step.
 use Rattle.std.proofs.Common.{◌≡◌, ⊎_elim, ℕ, ◌+◌, ◌*◌, ◌≤◌, List, [], ◌∷◌, length, get_or, Option, None, Some, option_map, true, false, ◌==◌, refl, sym, ◌∙◌, ap, subst, arith}
+use Rattle.std.proofs.lemmas.Option.{none-some, same_Some}
 use Rattle.std.proofs.lemmas.Bool.{cases_lt}
 use Rattle.hal_base.specs.Disk.{Torn, written}
 use Rattle.hal_base.specs.Stops.{LeavesOnly, TornFrom}
@@ -89,20 +90,14 @@ redo_done first count cs image last behind whole redo is = record {
       (written 4096 (0 ∷ []) (put_image first cs y), is y told, ends.0, ends.1);
 }
 
-none_told : (z : List ℕ) → None ≡ Some z → ⊥
-none_told z is = cc
-
-some_is : (x y : List ℕ) → Some x ≡ Some y → x ≡ y
-some_is x y is = cc
-
 -- the blocks that were read stand on the site
 pub load_stands : (first count : ℕ) {R : List ℕ → List ℕ → Type 0} (kept : List (List ℕ)) (old mid last : Option (List ℕ)) (outcomes : List ℕ → List ℕ → Type 0) → Became R old mid → IsRedone first count old mid → last ≡ mid → ReadsBlocks first count mid kept → IsExact last outcomes → Stands first count kept last outcomes
 load_stands first count kept None mid last outcomes same done is reads exact =
     let none : last ≡ None = is ∙ same.untold refl in
-    record { settled = λ z told. absurd (none_told z (sym none ∙ told)); blocks = λ z told. absurd (none_told z (sym none ∙ told)); exact = exact }
+    record { settled = λ z told. absurd (none-some z (sym none ∙ told)); blocks = λ z told. absurd (none-some z (sym none ∙ told)); exact = exact }
 load_stands first count kept (Some y) mid last outcomes same done is reads exact =
     let h = done.has y refl in
-    let z_is : (z : List ℕ) → last ≡ Some z → h.0 ≡ z = λ z told. some_is h.0 z (sym (is ∙ h.1) ∙ told) in
+    let z_is : (z : List ℕ) → last ≡ Some z → h.0 ≡ z = λ z told. same_Some h.0 z (sym (is ∙ h.1) ∙ told) in
     record {
       settled = λ z told. subst (λ (z : List ℕ). IsSettled first count z) (z_is z told) h.2;
       blocks = λ z told. subst (λ (z : List ℕ). blocks_at first count z ≡ kept) (z_is z told) (sym (reads.are h.0 h.1 h.2.long));

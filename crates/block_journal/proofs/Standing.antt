@@ -1,5 +1,6 @@
 -- What a journal tells, by what its site tells.
 use Rattle.std.proofs.Common.{◌≡◌, ◌⊎◌, inl, inr, ⊎_elim, ℕ, ◌<◌, ◌≤◌, Bool, true, false, List, [], ◌++◌, length, set, Option, None, Some, option_map, Result, Ok, Err, OnOk, OnErr, is_err, refl, sym, ◌∙◌, ap, subst, arith, cond, nat_le}
+use Rattle.std.proofs.lemmas.Option.{none-some, same_Some}
 use Rattle.std.proofs.lemmas.Bool.{cases_Bool, leb-true, le-leb, true≢false}
 use Rattle.std.proofs.lemmas.List.{append-nil}
 use Rattle.std.specs.Io.KnownBytes.{append_known}
@@ -43,24 +44,15 @@ pub commit_stops : (first count : ℕ) (cs : List Change) (kept : List (List ℕ
 commit_stops first count cs kept image said stands said_now only =
     leaves-read (redone first count) (CommitLeaves (told_where image kept) (told_where image (put_all cs kept)) said) only (λ x s from. (either_told first count cs kept image x stands.blocks from.0, said_now from.1.0 s from.1.1))
 
-list_is : (x y : List (List ℕ)) → Some x ≡ Some y → x ≡ y
-list_is x y is = cc
-
-no_list : (z : List (List ℕ)) → None ≡ Some z → ⊥
-no_list z is = cc
-
 pub commit_standing : (first count : ℕ) (cs : List Change) (kept : List (List ℕ)) (old new : Option (List ℕ)) {outcomes : List ℕ → List ℕ → Type 0} → Stands first count kept old outcomes → Became (CommitMakes first count cs) old new → (blocks : List (List ℕ)) → option_map (redone first count) new ≡ Some blocks → IsTold (told_where old kept) blocks ⊎ IsTold (told_where old (put_all cs kept)) blocks
-commit_standing first count cs kept None new stands became blocks is = absurd (no_list blocks (sym (ap (option_map (redone first count)) (became.untold refl)) ∙ is))
+commit_standing first count cs kept None new stands became blocks is = absurd (none-some blocks (sym (ap (option_map (redone first count)) (became.untold refl)) ∙ is))
 commit_standing first count cs kept (Some y) new stands became blocks is =
     let t = became.told y refl in
-    let blocks_is : redone first count t.0 ≡ blocks = list_is (redone first count t.0) blocks (sym (ap (option_map (redone first count)) t.1) ∙ is) in
+    let blocks_is : redone first count t.0 ≡ blocks = same_Some (redone first count t.0) blocks (sym (ap (option_map (redone first count)) t.1) ∙ is) in
     subst (λ (l : List (List ℕ)). IsTold (Some kept) l ⊎ IsTold (Some (put_all cs kept)) l) blocks_is (⊎_elim (λ before. inl (before ∙ stands.blocks y refl)) (λ after. inr (after ∙ ap (put_all cs) (stands.blocks y refl))) t.2.either)
 
 pub same_standing : (list committed standing : Option (List (List ℕ))) → standing ≡ committed → (blocks : List (List ℕ)) → standing ≡ Some blocks → IsTold committed blocks ⊎ IsTold list blocks
 same_standing list committed standing is blocks told = inl (subst (λ (l : Option (List (List ℕ))). IsTold l blocks) (sym told ∙ is) refl)
-
-pub commit_steady : (first count : ℕ) (cs : List Change) (old new : Option (List ℕ)) {a b : ℕ} {past at : ℕ → List ℕ → List ℕ → Type 0} → Became (CommitMakes first count cs) old new → LeavesOnly a b past at (MadeFrom (CommitMakes first count cs) (past a) old) → IsSteady first first count count old new a b past at
-commit_steady first count cs old new became only = record { place = refl; count = refl; reads = became-so became (λ y x told makes. makes.front); stops = leaves-weaken only (λ x s from y told. (from.0 y told).front) }
 
 pub say_steady : (first count : ℕ) (kept : List (List ℕ)) (old new : Option (List ℕ)) (text : List ℕ) {a b : ℕ} {past at : ℕ → List ℕ → List ℕ → Type 0} → Stands first count kept old (past a) → new ≡ old → LeavesOnly a b past at (SaidFrom (past a) text) → IsSteady first first count count old new a b past at
 say_steady first count kept old new text stands is only = record {
@@ -77,51 +69,39 @@ no_call moment stops faults = record { moment = moment; stops = stops; disk_faul
 pub say_room-same : (room : Option ℕ) (faults : ℕ) (fits : ℕ → Type 0) → HasSayRoom room room faults faults fits
 say_room-same room faults fits = record { stays = λ r is. (r, is, omega arith); quiet = λ r is fit. refl }
 
-none_told : (z : List ℕ) → None ≡ Some z → ⊥
-none_told z is = cc
-
-some_is : (x y : List ℕ) → Some x ≡ Some y → x ≡ y
-some_is x y is = cc
-
 -- after a commit the journal stands on the changed blocks
 pub commit_stands : (first count : ℕ) (cs : List Change) {R : List ℕ → List ℕ → Type 0} (kept : List (List ℕ)) (old new : Option (List ℕ)) (before outcomes : List ℕ → List ℕ → Type 0) → Stands first count kept old before → Became R old new → HasChanges first count cs old new → IsExact new outcomes → Stands first count (put_all cs kept) new outcomes
 commit_stands first count cs kept None new before outcomes stands same changes exact =
     let none : new ≡ None = same.untold refl in
-    record { settled = λ z is. absurd (none_told z (sym none ∙ is)); blocks = λ z is. absurd (none_told z (sym none ∙ is)); exact = exact }
+    record { settled = λ z is. absurd (none-some z (sym none ∙ is)); blocks = λ z is. absurd (none-some z (sym none ∙ is)); exact = exact }
 commit_stands first count cs kept (Some y) new before outcomes stands same changes exact =
     let h = changes.has y refl in
     record {
-      settled = λ z is. subst (λ (z : List ℕ). IsSettled first count z) (some_is h.0 z (sym h.1 ∙ is)) h.2;
-      blocks = λ z is. subst (λ (z : List ℕ). blocks_at first count z ≡ put_all cs kept) (some_is h.0 z (sym h.1 ∙ is)) (h.3 ∙ ap (put_all cs) (stands.blocks y refl));
+      settled = λ z is. subst (λ (z : List ℕ). IsSettled first count z) (same_Some h.0 z (sym h.1 ∙ is)) h.2;
+      blocks = λ z is. subst (λ (z : List ℕ). blocks_at first count z ≡ put_all cs kept) (same_Some h.0 z (sym h.1 ∙ is)) (h.3 ∙ ap (put_all cs) (stands.blocks y refl));
       exact = exact;
     }
-
-number_is : (x y : ℕ) → Some x ≡ Some y → x ≡ y
-number_is x y is = cc
-
-none_is : (n : ℕ) → None ≡ Some n → ⊥
-none_is n is = cc
 
 -- the room that a store tells
 room_within : (needed : ℕ) (r : ℕ × ℕ) (new : Option (ℕ × ℕ)) (before now : ℕ) (P : ℕ → Type 0) (Q : ℕ × ℕ → Type 0) → HasRoom (Some r) new before now Q → ((room : ℕ × ℕ) → needed ≤ room.0 → P room.1 → Q room) → nat_le needed r.0 ≡ true → HasSayRoom (say_room needed (Some r)) (say_room needed new) before now P
 room_within needed r new before now P Q room so enough = record {
   stays = λ n is.
       let t = room.stays r refl in
-      let n_is : r.1 ≡ n = number_is r.1 n (sym (ap (λ (b : Bool). cond b (Some r.1) None) enough) ∙ is) in
+      let n_is : r.1 ≡ n = same_Some r.1 n (sym (ap (λ (b : Bool). cond b (Some r.1) None) enough) ∙ is) in
       (t.0.1, ap (say_room needed) t.1 ∙ ap (λ (b : Bool). cond b (Some t.0.1) None) (le-leb needed t.0.0 (omega (arith, leb-true needed r.0 enough, t.2))), omega (arith, n_is, t.3));
   quiet = λ n is fits.
-      let n_is : r.1 ≡ n = number_is r.1 n (sym (ap (λ (b : Bool). cond b (Some r.1) None) enough) ∙ is) in
+      let n_is : r.1 ≡ n = same_Some r.1 n (sym (ap (λ (b : Bool). cond b (Some r.1) None) enough) ∙ is) in
       room.quiet r refl (so r (leb-true needed r.0 enough) (subst P (sym n_is) fits));
 }
 
 room_short : (needed : ℕ) (r : ℕ × ℕ) (new : Option (ℕ × ℕ)) (before now : ℕ) (P : ℕ → Type 0) → nat_le needed r.0 ≡ false → HasSayRoom (say_room needed (Some r)) (say_room needed new) before now P
 room_short needed r new before now P short = record {
-  stays = λ n is. absurd (none_is n (sym (ap (λ (b : Bool). cond b (Some r.1) None) short) ∙ is));
-  quiet = λ n is fits. absurd (none_is n (sym (ap (λ (b : Bool). cond b (Some r.1) None) short) ∙ is));
+  stays = λ n is. absurd (none-some n (sym (ap (λ (b : Bool). cond b (Some r.1) None) short) ∙ is));
+  quiet = λ n is fits. absurd (none-some n (sym (ap (λ (b : Bool). cond b (Some r.1) None) short) ∙ is));
 }
 
 pub say_room-by : (needed : ℕ) (old new : Option (ℕ × ℕ)) (before now : ℕ) (P : ℕ → Type 0) (Q : ℕ × ℕ → Type 0) → HasRoom old new before now Q → ((room : ℕ × ℕ) → needed ≤ room.0 → P room.1 → Q room) → HasSayRoom (say_room needed old) (say_room needed new) before now P
-say_room-by needed None new before now P Q room so = record { stays = λ n is. absurd (none_is n is); quiet = λ n is fits. absurd (none_is n is) }
+say_room-by needed None new before now P Q room so = record { stays = λ n is. absurd (none-some n is); quiet = λ n is fits. absurd (none-some n is) }
 say_room-by needed (Some r) new before now P Q room so = ⊎_elim (λ enough. room_within needed r new before now P Q room so enough) (λ short. room_short needed r new before now P short) (cases_Bool (nat_le needed r.0))
 
 pub say_room-from : (needed : ℕ) (old new : Option (ℕ × ℕ)) (before now : ℕ) (P : ℕ → Type 0) → HasRoom old new before now (λ room. needed ≤ room.0) → HasSayRoom (say_room needed old) (say_room needed new) before now P

@@ -2,19 +2,21 @@
 use Rattle.std.proofs.Common.{◌≡◌, inl, ℕ, ◌+◌, ◌-◌, ◌*◌, ◌^◌, ◌<◌, ◌≤◌, max, true, List, [], ◌∷◌, length, Option, Some, option_map, ◌∙◌, ap, subst, arith}
 use Rattle.hal_base.specs.Disk.{Torn, written}
 use Rattle.block_journal.specs.Change.{Change}
-use Rattle.block_journal.specs.Redo.{put_image, body_bytes, are_changes}
+use Rattle.block_journal.specs.Redo.{body_bytes, are_changes}
 use Rattle.block_journal.specs.Commit.{IsSettled, CommitMakes, HasChanges, last_byte}
 use Rattle.block_journal.specs.Device.{IsExact}
-use Rattle.block_journal.specs.Placing.{Places}
+use Rattle.block_journal.specs.Redoing.{IsToRedo, IsRedone, RedoMakes}
 use Rattle.block_journal.proofs.Made.{Start}
-use Rattle.block_journal.proofs.Torn.{Begins, body_makes, gate_makes, blocks_makes, close_makes, done}
-use Rattle.block_journal.specs.JournalLaw.{keeps_refl, redone_closed}
+use Rattle.block_journal.proofs.Changes.{length-body}
+use Rattle.block_journal.proofs.Rising.{are_few}
+use Rattle.block_journal.proofs.Torn.{Begins, body_makes, gate_makes, redo_makes, to_redo, redone_opened}
+use Rattle.block_journal.specs.JournalLaw.{are_whole, keeps_refl, redone_closed}
 
 -- what is written lies within the last byte
-pub room_body : (first count place n k : ℕ) → place ≡ first + 4096 * count → n ≡ 8 + 4100 * k → k ≤ count → place + n ≤ last_byte first count
-room_body first count place n k place_is n_is few =
-    let most : k ≤ max count 4096 = omega (arith, few) in
-    omega (arith, place_is, n_is, most)
+pub room_body : (first count place : ℕ) (cs : List Change) (body : List ℕ) → place ≡ first + 4096 * count → are_changes 0 count cs ≡ true → body ≡ body_bytes cs → place + length body ≤ last_byte first count
+room_body first count place cs body place_is rise is =
+    let most : length cs ≤ max count 4096 = omega (arith, are_few 0 count cs (omega arith) rise) in
+    omega (arith, place_is, ap length is, length-body count cs (are_whole 0 count cs rise), most)
 
 pub room_gate : (first count : ℕ) → 4096 + 1 ≤ last_byte first count
 room_gate first count =
@@ -24,11 +26,10 @@ room_gate first count =
 pub room_blocks : (first count : ℕ) → first + 4096 * count ≤ last_byte first count
 room_blocks first count = omega arith
 
-pub body_fits : (first count place n k : ℕ) → place ≡ first + 4096 * count → n ≡ 8 + 4100 * k → k ≤ count → first ≤ 2 ^ 30 → count < 2 ^ 32 → place + n ≤ 2 ^ 63 - 1
-body_fits first count place n k place_is n_is few near small = omega (arith, place_is, n_is, few, near, small)
-
-pub image_is : (f : List ℕ → List ℕ) (image next : Option (List ℕ)) (y : List ℕ) → next ≡ option_map f image → image ≡ Some y → next ≡ Some (f y)
-image_is f image next y is told = is ∙ ap (option_map f) told
+pub last_fits : (first count : ℕ) → first ≤ 2 ^ 30 → count < 2 ^ 32 → last_byte first count ≤ 2 ^ 63 - 1
+last_fits first count near small =
+    let most : max count 4096 ≤ 2 ^ 32 = omega (arith, small) in
+    omega (arith, near, small, most)
 
 pub body_is : (at place : ℕ) (bytes body : List ℕ) (image next : Option (List ℕ)) → at ≡ place → bytes ≡ body → next ≡ option_map (written at bytes) image → next ≡ option_map (written place body) image
 body_is at place bytes body image next place_is same is = is ∙ (λ i. option_map (written (place_is i) (same i)) image)
@@ -48,15 +49,15 @@ module _ (first count : ℕ) (cs : List Change) (image : Option (List ℕ)) (beg
   pub gate_step : (y x : List ℕ) → image ≡ Some y → Torn 4096 1 (written (first + 4096 * count) (body_bytes cs) y) x → CommitMakes first count cs y x
   gate_step y x told torn = gate_makes first count cs y (begins y told) x torn
 
-  pub blocks_step : (y x : List ℕ) → image ≡ Some y → Places first count cs (written 4096 (1 ∷ []) (written (first + 4096 * count) (body_bytes cs) y)) x → CommitMakes first count cs y x
-  blocks_step y x told placed = blocks_makes first count cs y (begins y told) x placed
+  pub redo_step : (y x : List ℕ) → image ≡ Some y → RedoMakes first count (written 4096 (1 ∷ []) (written (first + 4096 * count) (body_bytes cs) y)) x → CommitMakes first count cs y x
+  redo_step y x told makes = redo_makes first count cs y (begins y told) x makes
 
-  pub close_step : (y x : List ℕ) → image ≡ Some y → Torn 4096 1 (put_image first cs (written 4096 (1 ∷ []) (written (first + 4096 * count) (body_bytes cs) y))) x → CommitMakes first count cs y x
-  close_step y x told torn = close_makes first count cs y (begins y told) x torn
+  pub opened_redo : (y : List ℕ) → image ≡ Some y → IsToRedo first count cs (written 4096 (1 ∷ []) (written (first + 4096 * count) (body_bytes cs) y))
+  opened_redo y told = to_redo first count cs y (begins y told)
 
-  pub commit_done : (last : Option (List ℕ)) → ((y : List ℕ) → image ≡ Some y → last ≡ Some (written 4096 (0 ∷ []) (put_image first cs (written 4096 (1 ∷ []) (written (first + 4096 * count) (body_bytes cs) y))))) → HasChanges first count cs image last
-  commit_done last is = record {
+  pub commit_done : (next last : Option (List ℕ)) → ((y : List ℕ) → image ≡ Some y → next ≡ Some (written 4096 (1 ∷ []) (written (first + 4096 * count) (body_bytes cs) y))) → IsRedone first count next last → HasChanges first count cs image last
+  commit_done next last is redo = record {
     has = λ y told.
-        let ends = done first count cs y (begins y told) in
-        (written 4096 (0 ∷ []) (put_image first cs (written 4096 (1 ∷ []) (written (first + 4096 * count) (body_bytes cs) y))), is y told, ends.0, ends.1);
+        let ends = redo.has (written 4096 (1 ∷ []) (written (first + 4096 * count) (body_bytes cs) y)) (is y told) in
+        (ends.0, ends.1, ends.2, ends.3 ∙ redone_opened first count cs y (begins y told));
   }

@@ -7,16 +7,16 @@ use Rattle.std.proofs.lemmas.Nat.{from_be_bytes-to_be_bytes_4}
 use Rattle.std.proofs.lemmas.Bool.{cases_Bool}
 use Rattle.hal_base.specs.Disk.{written, Torn}
 use Rattle.block_journal.specs.Change.{Change}
-use Rattle.block_journal.specs.Redo.{number_at, blocks_at, changes_at, put_all, put_image, is_open, journal_of, redone, change_bytes, body_bytes, are_changes}
+use Rattle.block_journal.specs.Redo.{number_at, blocks_at, changes_at, put_all, is_open, journal_of, redone, change_bytes, body_bytes, are_changes}
 use Rattle.block_journal.proofs.Images.{SameOutside, bytes_at-is, torn_outside, written_inside, written_outside, length-written, length-written_le}
 use Rattle.block_journal.specs.Body.{HasBody}
-use Rattle.block_journal.specs.Placing.{AreWhole, Places}
-use Rattle.block_journal.specs.Commit.{IsSettled, CommitMakes}
+use Rattle.block_journal.specs.Placing.{AreWhole}
+use Rattle.block_journal.specs.Commit.{CommitMakes}
 use Rattle.block_journal.specs.Front.{KeepsFront}
 use Rattle.block_journal.specs.Redoing.{IsToRedo, RedoMakes}
 use Rattle.block_journal.proofs.Changes.{blocks_at-ext, changes_at-is, length-body}
 use Rattle.block_journal.proofs.Fronts.{body_front, gate_front}
-use Rattle.block_journal.proofs.Redoing.{redone_open, redone_changes, placing_makes, closing_makes, redo_settled}
+use Rattle.block_journal.proofs.Redoing.{redone_open, redone_changes}
 use Rattle.block_journal.proofs.Rising.{are_few}
 use Rattle.hal_base.proofs.ImageLemmas.{torn_whole}
 use Rattle.block_journal.specs.JournalLaw.{are_whole, keeps_then, redone_closed}
@@ -34,18 +34,6 @@ pub record Begins (first count : ℕ) (cs : List Change) (x : List ℕ) : Type 0
   pub closed : is_open x ≡ false
 
 module _ (first count : ℕ) (cs : List Change) (x : List ℕ) (b : Begins first count cs x) where
-  old : List (List ℕ)
-  old = blocks_at first count x
-
-  new : List (List ℕ)
-  new = put_all cs (blocks_at first count x)
-
-  start : ℕ
-  start = first + 4096 * count
-
-  flat : List ℕ
-  flat = flat_map change_bytes cs
-
   -- the body is being written
   pub body_torn : (n : ℕ) (y : List ℕ) → Torn (first + 4096 * count) n x y → redone first count y ≡ blocks_at first count x
   body_torn n y torn =
@@ -157,7 +145,7 @@ module _ (first count : ℕ) (cs : List Change) (x : List ℕ) (b : Begins first
   opened_blocks = blocks_at-ext first count (written 4096 (1 ∷ []) (written (first + 4096 * count) (body_bytes cs) x)) x (record { byte = λ i low high. opened_outside.byte i (inr (omega (arith, low, b.behind))) ∙ in_blocks i low high })
 
   -- from here on it is an open journal
-  to_redo : IsToRedo first count cs (written 4096 (1 ∷ []) (written (first + 4096 * count) (body_bytes cs) x))
+  pub to_redo : IsToRedo first count cs (written 4096 (1 ∷ []) (written (first + 4096 * count) (body_bytes cs) x))
   to_redo = record {
     long = long_opened;
     opened = ap (λ (b : ℕ). b == 1) (written_inside 4096 (1 ∷ []) (written (first + 4096 * count) (body_bytes cs) x) 0 staged_long (omega arith));
@@ -165,7 +153,7 @@ module _ (first count : ℕ) (cs : List Change) (x : List ℕ) (b : Begins first
     journal = sym (journal_is (written 4096 (1 ∷ []) (written (first + 4096 * count) (body_bytes cs) x)) (λ i le. opened_outside.byte i (inr (omega (arith, le, b.behind)))));
   }
 
-  redone_opened : redone first count (written 4096 (1 ∷ []) (written (first + 4096 * count) (body_bytes cs) x)) ≡ put_all cs (blocks_at first count x)
+  pub redone_opened : redone first count (written 4096 (1 ∷ []) (written (first + 4096 * count) (body_bytes cs) x)) ≡ put_all cs (blocks_at first count x)
   redone_opened = redone_changes first count cs (written 4096 (1 ∷ []) (written (first + 4096 * count) (body_bytes cs) x)) b.behind whole to_redo ∙ ap (λ (l : List (List ℕ)). put_all cs l) opened_blocks
 
   opened_front : KeepsFront first count x (written 4096 (1 ∷ []) (written (first + 4096 * count) (body_bytes cs) x))
@@ -178,19 +166,7 @@ module _ (first count : ℕ) (cs : List Change) (x : List ℕ) (b : Begins first
   pub gate_makes : (y : List ℕ) → Torn 4096 1 (written (first + 4096 * count) (body_bytes cs) x) y → CommitMakes first count cs x y
   gate_makes y torn = record { either = gate_torn y torn; front = gated_front y torn }
 
-  redo_makes : (y : List ℕ) → RedoMakes first count (written 4096 (1 ∷ []) (written (first + 4096 * count) (body_bytes cs) x)) y → CommitMakes first count cs x y
+  pub redo_makes : (y : List ℕ) → RedoMakes first count (written 4096 (1 ∷ []) (written (first + 4096 * count) (body_bytes cs) x)) y → CommitMakes first count cs x y
   redo_makes y makes =
       let m = makes long_opened in
       record { either = inr (m.0 ∙ redone_opened); front = keeps_then opened_front m.1 }
-
-  pub blocks_makes : (y : List ℕ) → Places first count cs (written 4096 (1 ∷ []) (written (first + 4096 * count) (body_bytes cs) x)) y → CommitMakes first count cs x y
-  blocks_makes y placed = redo_makes y (placing_makes first count cs (written 4096 (1 ∷ []) (written (first + 4096 * count) (body_bytes cs) x)) b.behind whole to_redo y placed)
-
-  pub close_makes : (y : List ℕ) → Torn 4096 1 (put_image first cs (written 4096 (1 ∷ []) (written (first + 4096 * count) (body_bytes cs) x))) y → CommitMakes first count cs x y
-  close_makes y torn = redo_makes y (closing_makes first count cs (written 4096 (1 ∷ []) (written (first + 4096 * count) (body_bytes cs) x)) b.behind whole to_redo y torn)
-
-  -- the commit is done
-  pub done : IsSettled first count (written 4096 (0 ∷ []) (put_image first cs (written 4096 (1 ∷ []) (written (first + 4096 * count) (body_bytes cs) x)))) × (blocks_at first count (written 4096 (0 ∷ []) (put_image first cs (written 4096 (1 ∷ []) (written (first + 4096 * count) (body_bytes cs) x)))) ≡ put_all cs (blocks_at first count x))
-  done =
-      let ends = redo_settled first count cs (written 4096 (1 ∷ []) (written (first + 4096 * count) (body_bytes cs) x)) b.behind whole to_redo in
-      (ends.0, ends.1 ∙ redone_opened)

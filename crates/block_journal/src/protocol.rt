@@ -14,7 +14,8 @@ ghost use Rattle.block_journal.specs.Device.{Became, MadeFrom, IsExact};
 ghost use Rattle.block_journal.specs.Redo.{are_changes, body_bytes};
 
 use crate::change::Changes;
-use crate::device::{place_of, write_blocks, write_synced};
+use crate::device::{place_of, write_synced};
+use crate::redo::redo_changes;
 use hal_base::{Failed, Site};
 
 /// Where the gate is.
@@ -46,6 +47,5 @@ pub(crate) fn commit_changes<T: Site>(
 {
     write_synced(site, place_of(first, count), body)?;
     write_synced(site, GATE, &[1])?;
-    write_blocks(site, first, count, changes)?;
-    write_synced(site, GATE, &[0])
+    redo_changes(site, first, count, changes)
 }

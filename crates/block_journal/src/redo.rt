@@ -22,7 +22,7 @@ use hal_base::{Failed, Site};
 use std::alloc::Global;
 
 /// Makes the changes of an open journal, and closes it.
-fn redo_changes<T: Site>(
+pub(crate) fn redo_changes<T: Site>(
     site: &mut T,
     first: u64,
     count: u32,
