@@ -4,9 +4,8 @@ ghost use Rattle.hal_schema.specs.Lawful.{is_key_field, is_key_portion};
 ghost use Rattle.definition_printer.specs.Wrapped.{wrapped};
 ghost use Rattle.definition_printer.specs.Dbd.{field_statement, kind, sequence_name, plain_field, keyed_fields, fields_text};
 
-use crate::number::put_number;
 use crate::wrap::put_wrapped;
-use hal_base::{Bytes, Memory, Name8};
+use hal_base::{Bytes, Memory, Name8, put_number};
 use hal_schema::{Field, KeyField};
 use std::alloc::Global;
 

@@ -4,7 +4,6 @@
 mod dbd;
 mod field;
 mod index;
-mod number;
 mod partitions;
 mod segment;
 mod wrap;
