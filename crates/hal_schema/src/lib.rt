@@ -8,6 +8,7 @@ mod entry_key;
 mod fault;
 mod first;
 mod judge;
+mod laws;
 mod plain;
 mod raw;
 mod row;
@@ -17,6 +18,7 @@ mod types;
 
 pub use fault::{Place, SchemaFault};
 pub use first::first_schema;
+pub use laws::schemas_are_kept;
 pub use raw::{RawDbd, RawField, RawIndex, RawPart, RawParts, RawSchema, RawType};
 pub use row::Row;
 pub use schema::{Field, IndexDef, KeyField, PartDef, Schema, SegType};
