@@ -3,7 +3,8 @@
 
 mod roots;
 
-pub use roots::{anchor, root_cmp, root_order_is_total, select};
+pub use hal_schema::select;
+pub use roots::{anchor, root_cmp, root_order_is_total};
 
 #[cfg(test)]
 mod tests;
