@@ -32,12 +32,12 @@ key_lies all k [] any fit = cc
 key_lies all k (f ∷ fields) any fit =
     elim (or_cases _ _ any) [
       | inl here ↦
-        let a = and_parts (f.start == k.start && f.bytes == k.bytes) (not (is_key_portion f.name)) here in
-        let b = and_parts (f.start == k.start) (f.bytes == k.bytes) a.0 in
-        let start : f.start ≡ k.start = eqb-true _ _ b.0 in
-        let bytes : f.bytes ≡ k.bytes = eqb-true _ _ b.1 in
-        let l = field_lies all f (not-true _ a.1) (and_parts _ _ fit).0 in
-        subst (λ (s : ℕ). LiesIn all s k.bytes) start (subst (λ (n : ℕ). LiesIn all f.start n) bytes l)
+          let a = and_parts (f.start == k.start && f.bytes == k.bytes) (not (is_key_portion f.name)) here in
+          let b = and_parts (f.start == k.start) (f.bytes == k.bytes) a.0 in
+          let start : f.start ≡ k.start = eqb-true _ _ b.0 in
+          let bytes : f.bytes ≡ k.bytes = eqb-true _ _ b.1 in
+          let l = field_lies all f (not-true _ a.1) (and_parts _ _ fit).0 in
+          subst (λ (s : ℕ). LiesIn all s k.bytes) start (subst (λ (n : ℕ). LiesIn all f.start n) bytes l)
       | inr later ↦ key_lies all k fields later (and_parts _ _ fit).1
     ]
 
@@ -105,6 +105,9 @@ anchors_kept : (phdam : Bool) (n : ℕ) → (not phdam || (nat_le 1 n && nat_le 
 anchors_kept true n h e = let a = and_parts _ _ h in (leb-true _ _ a.0, leb-true _ _ a.1)
 anchors_kept false n h e = absurd (true≢false (sym e))
 
+not_one : (n : ℕ) → n ≡ 1 → (n == 0 || (nat_le 2 n && nat_le n 100)) ≡ true → ⊥
+not_one n one h = let P : ℕ → Type 0 = λ m. (m == 0 || (nat_le 2 m && nat_le m 100)) ≡ true in let no : false ≡ true = subst P one h in cc
+
 keeps_part : (schema : Schema) (p : PartDef) → part_is_kept schema.phdam p ≡ true → (length p.high == key_bytes schema.types 1) ≡ true → KeepsPart schema p
 keeps_part schema p h high =
     let a = and_parts _ _ h in
@@ -118,6 +121,7 @@ keeps_part schema p h high =
       some_anchors = λ e. (anchors_kept schema.phdam p.anchors c.0 e).0;
       few_anchors = λ e. (anchors_kept schema.phdam p.anchors c.0 e).1;
       free_blocks = few_or_none p.fbff c.1;
+      not_each_block = λ one. not_one p.fbff one c.1;
       free_space = leb-true _ _ b.1;
     }
 

@@ -1,5 +1,5 @@
 -- What every schema keeps, as those use it who stand on one.
-use Rattle.std.specs.Prelude.{◌≡◌, ℕ, ◌+◌, ◌<◌, ◌≤◌, ◌==◌, Bool, true, false, List, ◌∷◌, length, Option, None, Some, IsTrue}
+use Rattle.std.specs.Prelude.{◌≡◌, ◌≢◌, ℕ, ◌+◌, ◌<◌, ◌≤◌, ◌==◌, Bool, true, false, List, ◌∷◌, length, Option, None, Some, IsTrue}
 use Rattle.std.specs.List.{list_any, slice_get}
 use Rattle.hal_schema.specs.declared.schema.Field.{Field}
 use Rattle.hal_schema.specs.declared.schema.KeyField.{KeyField}
@@ -54,6 +54,7 @@ pub record KeepsPart (schema : Schema) (p : PartDef) : Type 0 where
   pub some_anchors : schema.phdam ≡ true → 1 ≤ p.anchors
   pub few_anchors : schema.phdam ≡ true → p.anchors ≤ 1000000
   pub free_blocks : p.fbff ≤ 100
+  pub not_each_block : p.fbff ≢ 1
   pub free_space : p.fspf ≤ 99
 
 pub record IsKept (schema : Schema) : Type 0 where
