@@ -66,9 +66,6 @@ say_steady first count kept old new text stands is only = record {
 pub no_call : {old new : StoreView} → new.moment ≡ old.moment → LeavesSame old new → new.disk_faults ≡ old.disk_faults → NoCall old new
 no_call moment stops faults = record { moment = moment; stops = stops; disk_faults = faults }
 
-pub say_room-same : (room : Option ℕ) (faults : ℕ) (fits : ℕ → Type 0) → HasSayRoom room room faults faults fits
-say_room-same room faults fits = record { stays = λ r is. (r, is, omega arith); quiet = λ r is fit. refl }
-
 -- after a commit the journal stands on the changed blocks
 pub commit_stands : (first count : ℕ) (cs : List Change) {R : List ℕ → List ℕ → Type 0} (kept : List (List ℕ)) (old new : Option (List ℕ)) (before outcomes : List ℕ → List ℕ → Type 0) → Stands first count kept old before → Became R old new → HasChanges first count cs old new → IsExact new outcomes → Stands first count (put_all cs kept) new outcomes
 commit_stands first count cs kept None new before outcomes stands same changes exact =

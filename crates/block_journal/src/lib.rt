@@ -6,6 +6,7 @@ mod change;
 mod device;
 mod fault;
 mod journal;
+mod laws;
 mod open;
 mod protocol;
 mod redo;

@@ -1,5 +1,5 @@
 -- Between two calls a stop leaves just what was said, and it may leave the image that reads.
-use Rattle.std.specs.Prelude.{◌≡◌, ℕ, ◌*◌, ◌≤◌, true, false, List, [], ◌∷◌, length, Option, Some}
+use Rattle.std.specs.Prelude.{◌≡◌, ℕ, ◌*◌, ◌≤◌, true, false, List, [], ◌∷◌, length, Some}
 use Rattle.std.proofs.Common.{inl, inr, refl, sym, ◌∙◌, subst, arith}
 use Rattle.hal_base.proofs.ImageLemmas.{torn_whole, torn_none}
 use Rattle.hal_disk.specs.declared.call.Call.{Call}

@@ -2,6 +2,7 @@ use Rattle.std.proofs.Common.{◌≡◌, ◌∙◌, ℕ, List, length, true, ◌
 use Rattle.std.specs.Prelude.{All}
 use Rattle.std.proofs.lemmas.Bool.{eqb-true, true≢false}
 use Rattle.std.proofs.lemmas.List.{nil_from_length}
+use Rattle.hal_base.proofs.StoreLemmas.{say_room_none}
 use Rattle.hal_base.proofs.StopLemmas.{not_yet}
 use Rattle.block_journal.specs.Change.{Change}
 use Rattle.block_journal.specs.Commit.{last_byte}
@@ -9,7 +10,7 @@ use Rattle.block_journal.specs.Placing.{AreWhole}
 use Rattle.block_journal.specs.Redo.{put_all}
 use Rattle.block_journal.specs.Stands.{told_where, say_room}
 use Rattle.block_journal.specs.JournalLaw.{are_whole, length-put_all, put_all-whole, none_list, standing_is}
-use Rattle.block_journal.proofs.Standing.{commit_stops, commit_standing, same_standing, commit_stands-of, told_same, say_room-from, say_room-same, few_changes, none_rise}
+use Rattle.block_journal.proofs.Standing.{commit_stops, commit_standing, same_standing, commit_stands-of, told_same, say_room-from, few_changes, none_rise}
 use Rattle.block_journal.proofs.journal.JournalStore.commit.Goals as goal
 
 pub returns-then-is_empty-clause-commits : goal.returns-then-is_empty-clause-commits
@@ -28,7 +29,7 @@ returns-then-is_empty-clause-commits g c =
       memory = λ is. record { moment = refl; stops = not_yet (g.T.Site.moment c.args.self.now.site) _ _; disk_faults = refl };
       nothing = λ clean. (tt, record { moment = refl; stops = not_yet (g.T.Site.moment c.args.self.now.site) _ _; disk_faults = refl });
       say_faults = refl;
-      room = say_room-same (say_room (last_byte c.args.self.now.first c.args.self.now.count) (g.T.Site.room c.args.self.now.site)) (g.T.Site.disk_faults c.args.self.now.site) _;
+      room = say_room_none (say_room (last_byte c.args.self.now.first c.args.self.now.count) (g.T.Site.room c.args.self.now.site)) (g.T.Site.disk_faults c.args.self.now.site) _;
       fetches = refl;
     }
 
@@ -54,7 +55,7 @@ returns-in_default-clause-commits g c =
       memory = λ is. record { moment = refl; stops = not_yet (g.T.Site.moment c.args.self.now.site) _ _; disk_faults = refl };
       nothing = λ clean. absurd (dirty clean);
       say_faults = refl;
-      room = say_room-same (say_room (last_byte c.args.self.now.first c.args.self.now.count) (g.T.Site.room c.args.self.now.site)) (g.T.Site.disk_faults c.args.self.now.site) _;
+      room = say_room_none (say_room (last_byte c.args.self.now.first c.args.self.now.count) (g.T.Site.room c.args.self.now.site)) (g.T.Site.disk_faults c.args.self.now.site) _;
       fetches = refl;
     }
 

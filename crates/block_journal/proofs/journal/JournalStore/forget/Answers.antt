@@ -1,10 +1,11 @@
 use Rattle.std.proofs.Common.{◌==◌, List, length, refl, ap, arith}
+use Rattle.hal_base.proofs.StoreLemmas.{say_room_none}
 use Rattle.hal_base.proofs.StopLemmas.{not_yet}
 use Rattle.block_journal.specs.Change.{Change}
 use Rattle.block_journal.specs.Commit.{last_byte}
 use Rattle.block_journal.specs.Stands.{say_room}
 use Rattle.block_journal.specs.JournalLaw.{none_list}
-use Rattle.block_journal.proofs.Standing.{none_rise, say_room-same}
+use Rattle.block_journal.proofs.Standing.{none_rise}
 use Rattle.block_journal.proofs.journal.JournalStore.forget.Goals as goal
 
 pub invariant_of-self : goal.invariant_of-self
@@ -28,7 +29,7 @@ returns-clause-forgets g c = record {
     said = refl;
     stops = not_yet (g.T.Site.moment c.args.self.now.site) _ _;
     say_faults = refl;
-    room = say_room-same (say_room (last_byte c.args.self.now.first c.args.self.now.count) (g.T.Site.room c.args.self.now.site)) (g.T.Site.disk_faults c.args.self.now.site) _;
+    room = say_room_none (say_room (last_byte c.args.self.now.first c.args.self.now.count) (g.T.Site.room c.args.self.now.site)) (g.T.Site.disk_faults c.args.self.now.site) _;
     fetches = omega arith;
   };
   no_call = record { moment = refl; stops = not_yet (g.T.Site.moment c.args.self.now.site) _ _; disk_faults = refl };
