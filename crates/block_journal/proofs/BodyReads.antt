@@ -1,27 +1,25 @@
 -- What the reads of a journal's body give.
 use Rattle.std.proofs.Common.{◌≡◌, ℕ, zero, suc, ◌+◌, ◌*◌, ◌<◌, ◌≤◌, Bool, true, ◌==◌, List, [], ◌∷◌, ◌++◌, length, get_or, take, drop, Option, None, Some, refl, sym, ◌∙◌, ap, subst, arith, length-drop}
+use Rattle.std.proofs.lemmas.Option.{none-some, same_Some}
 use Rattle.std.specs.Prelude.{IfSome}
 use Rattle.std.specs.Int.{w32, from_be_bytes}
 use Rattle.std.proofs.lemmas.List.{length-take, take_all, get_or-take, get_or-drop}
 use Rattle.std.proofs.lemmas.Bool.{eqb-true, eq-eqb, true≢false}
-use Rattle.block_journal.specs.declared.change.Change.{Change}
+use Rattle.std.specs.BTreeMap.{insert_entry}
+use Rattle.std.specs.Ordering.{nat_cmp}
+use Rattle.block_journal.specs.Change.{Change}
 use Rattle.block_journal.specs.Body.{AreThere}
 use Rattle.block_journal.specs.Reads.{ReadsWhole, ReadsNumber, ReadsChange, ReadsSize, ReadsBody, LacksBody}
 use Rattle.block_journal.specs.Redo.{bytes_at, number_at, changes_at, are_changes}
 use Rattle.block_journal.proofs.Images.{bytes_at-is}
-use Rattle.block_journal.proofs.Rising.{parts, joined, are_few}
-
-none_told : (z : List ℕ) → None ≡ Some z → ⊥
-none_told z is = cc
-
-some_is : (x y : List ℕ) → Some x ≡ Some y → x ≡ y
-some_is x y is = cc
+use Rattle.block_journal.proofs.Rising.{least_of, put_in_last, joined, are_few}
+use Rattle.block_journal.specs.JournalLaw.{parts}
 
 pub whole_read : (at n : ℕ) (buf : List ℕ) (image : Option (List ℕ)) (whole : Bool) → IfSome image (λ bytes. take n buf ≡ take (length buf) (drop at bytes)) → 0 < length buf → n ≤ length buf → whole ≡ (n == length buf) → ReadsWhole at image whole buf
-whole_read at n buf None whole read some within is = record { is = λ w y told. absurd (none_told y told); short = λ w y told. absurd (none_told y told) }
+whole_read at n buf None whole read some within is = record { is = λ w y told. absurd (none-some y told); short = λ w y told. absurd (none-some y told) }
 whole_read at n buf (Some x) whole read some within is = record {
-  is = λ w y told. subst (λ (y : List ℕ). (at + length buf ≤ length y) × (buf ≡ bytes_at at (length buf) y)) (some_is x y told) (full (eqb-true n (length buf) (sym is ∙ w)));
-  short = λ w y told. subst (λ (y : List ℕ). length y < at + length buf) (some_is x y told) (cut (λ all. true≢false (sym (is ∙ eq-eqb n (length buf) all) ∙ w)));
+  is = λ w y told. subst (λ (y : List ℕ). (at + length buf ≤ length y) × (buf ≡ bytes_at at (length buf) y)) (same_Some x y told) (full (eqb-true n (length buf) (sym is ∙ w)));
+  short = λ w y told. subst (λ (y : List ℕ). length y < at + length buf) (same_Some x y told) (cut (λ all. true≢false (sym (is ∙ eq-eqb n (length buf) all) ∙ w)));
 }
   where
     full : n ≡ length buf → (at + length buf ≤ length x) × (buf ≡ bytes_at at (length buf) x)
@@ -36,20 +34,20 @@ whole_read at n buf (Some x) whole read some within is = record {
 
 pub number_read : (at number : ℕ) (bytes : List ℕ) (image : Option (List ℕ)) (whole : Bool) → number ≡ from_be_bytes w32 bytes → length bytes ≡ 4 → whole ≡ true → ReadsWhole at image whole bytes → ReadsNumber at image (Some number)
 unfolding number_at
-number_read at number bytes image whole number_is four is read = record {
+number_read at number bytes image whole same_Some four is read = record {
   is = λ n same y told.
       let r = read.is is y told in
       let same_number : number ≡ n = cc in
-      (omega (arith, r.0, four), sym same_number ∙ number_is ∙ ap (from_be_bytes w32) (r.1 ∙ ap (λ (k : ℕ). bytes_at at k y) four));
+      (omega (arith, r.0, four), sym same_number ∙ same_Some ∙ ap (from_be_bytes w32) (r.1 ∙ ap (λ (k : ℕ). bytes_at at k y) four));
   short = λ none. cc;
 }
 
-pub change_read : (at n : ℕ) (content : List ℕ) (image next : Option (List ℕ)) (number : Option ℕ) (whole : Bool) → number ≡ Some n → ReadsNumber at image number → next ≡ image → length content ≡ 4096 → whole ≡ true → ReadsWhole (at + 4) next whole content → ReadsChange at image (Some (record { number = n; content = content }))
+pub change_read : (at n : ℕ) (content : List ℕ) (image next : Option (List ℕ)) (number : Option ℕ) (whole : Bool) → number ≡ Some n → ReadsNumber at image number → next ≡ image → length content ≡ 4096 → whole ≡ true → ReadsWhole (at + 4) next whole content → ReadsChange at image (Some ((n, content)))
 change_read at n content image next number whole is_n head same long is read = record {
   is = λ c is_c y told.
       let h = head.is n is_n y told in
       let r = read.is is y (same ∙ told) in
-      subst (λ (c : Change). (at + 4100 ≤ length y) × (c.number ≡ number_at at y) × (c.content ≡ bytes_at (at + 4) 4096 y)) (change_some (record { number = n; content = content }) c is_c)
+      subst (λ (c : Change). (at + 4100 ≤ length y) × (c.0 ≡ number_at at y) × (c.1 ≡ bytes_at (at + 4) 4096 y)) (change_some ((n, content)) c is_c)
       (omega (arith, r.0, long), h.1, r.1 ∙ ap (λ (k : ℕ). bytes_at (at + 4) k y) long);
   short = λ none. cc;
 }
@@ -57,33 +55,28 @@ change_read at n content image next number whole is_n head same long is read = r
     change_some : (a b : Change) → Some a ≡ Some b → a ≡ b
     change_some a b is = cc
 
--- where the next number begins
-unfoldable pub least_of : ℕ → List Change → ℕ
-least_of from [] = from
-least_of from (c ∷ cs) = least_of (c.number + 1) cs
-
-pub least_more : (from : ℕ) (cs : List Change) (c : Change) → least_of from (cs ++ c ∷ []) ≡ c.number + 1
+pub least_more : (from : ℕ) (cs : List Change) (c : Change) → least_of from (cs ++ c ∷ []) ≡ c.0 + 1
 unfolding least_of
 least_more from [] c = refl
-least_more from (d ∷ cs) c = least_more (d.number + 1) cs c
+least_more from (d ∷ cs) c = least_more (d.0 + 1) cs c
 
-pub rising_more : (from count : ℕ) (cs : List Change) (c : Change) → are_changes from count cs ≡ true → least_of from cs ≤ c.number → c.number < count → length c.content ≡ 4096 → are_changes from count (cs ++ c ∷ []) ≡ true
+pub rising_more : (from count : ℕ) (cs : List Change) (c : Change) → are_changes from count cs ≡ true → least_of from cs ≤ c.0 → c.0 < count → length c.1 ≡ 4096 → are_changes from count (cs ++ c ∷ []) ≡ true
 unfolding least_of are_changes
 rising_more from count [] c rise low high whole = joined from count c [] (record { low = low; high = high; whole = whole; rest = refl })
 rising_more from count (d ∷ cs) c rise low high whole =
     let p = parts from count d cs rise in
-    joined from count d (cs ++ c ∷ []) (record { low = p.low; high = p.high; whole = p.whole; rest = rising_more (d.number + 1) count cs c p.rest low high whole })
+    joined from count d (cs ++ c ∷ []) (record { low = p.low; high = p.high; whole = p.whole; rest = rising_more (d.0 + 1) count cs c p.rest low high whole })
 
 -- of changes that rise, each number is behind those before it and below the count
 pub rising_at : (from count at k n : ℕ) (y : List ℕ) → k < n → are_changes from count (changes_at at n y) ≡ true → (least_of from (changes_at at k y) ≤ number_at (at + 4100 * k) y) × (number_at (at + 4100 * k) y < count)
 unfolding least_of changes_at
 rising_at from count at k zero y lt rise = absurd (omega (arith, lt))
 rising_at from count at zero (suc n) y lt rise =
-    let p = parts from count (record { number = number_at at y; content = bytes_at (at + 4) 4096 y }) (changes_at (at + 4100) n y) rise in
+    let p = parts from count ((number_at at y, bytes_at (at + 4) 4096 y)) (changes_at (at + 4100) n y) rise in
     let here : at ≡ at + 4100 * 0 = omega arith in
     subst (λ (a : ℕ). (from ≤ number_at a y) × (number_at a y < count)) here (p.low, p.high)
 rising_at from count at (suc k) (suc n) y lt rise =
-    let p = parts from count (record { number = number_at at y; content = bytes_at (at + 4) 4096 y }) (changes_at (at + 4100) n y) rise in
+    let p = parts from count ((number_at at y, bytes_at (at + 4) 4096 y)) (changes_at (at + 4100) n y) rise in
     let there : at + 4100 + 4100 * k ≡ at + 4100 * (suc k) = omega arith in
     subst (λ (a : ℕ). (least_of (number_at at y + 1) (changes_at (at + 4100) k y) ≤ number_at a y) × (number_at a y < count)) there (rising_at (number_at at y + 1) count (at + 4100) k n y (omega (arith, lt)) p.rest)
 
@@ -92,18 +85,18 @@ unfolding changes_at
 length-changes_at at zero y = refl
 length-changes_at at (suc n) y = omega (arith, length-changes_at (at + 4100) n y)
 
-changes_suc : (at n : ℕ) (y : List ℕ) → changes_at at (suc n) y ≡ changes_at at n y ++ record { number = number_at (at + 4100 * n) y; content = bytes_at (at + 4100 * n + 4) 4096 y } ∷ []
+changes_suc : (at n : ℕ) (y : List ℕ) → changes_at at (suc n) y ≡ changes_at at n y ++ (number_at (at + 4100 * n) y, bytes_at (at + 4100 * n + 4) 4096 y) ∷ []
 unfolding changes_at
-changes_suc at zero y = ap (λ (a : ℕ). record { number = number_at a y; content = bytes_at (a + 4) 4096 y } ∷ []) (omega arith)
+changes_suc at zero y = ap (λ (a : ℕ). (number_at a y, bytes_at (a + 4) 4096 y) ∷ []) (omega arith)
 changes_suc at (suc n) y =
-    let first : Change = record { number = number_at at y; content = bytes_at (at + 4) 4096 y } in
+    let first : Change = (number_at at y, bytes_at (at + 4) 4096 y) in
     let there : at + 4100 + 4100 * n ≡ at + 4100 * suc n = omega arith in
     ap (λ (l : List Change). first ∷ l) (changes_suc (at + 4100) n y)
-    ∙ ap (λ (a : ℕ). first ∷ (changes_at (at + 4100) n y ++ record { number = number_at a y; content = bytes_at (a + 4) 4096 y } ∷ [])) there
+    ∙ ap (λ (a : ℕ). first ∷ (changes_at (at + 4100) n y ++ (number_at a y, bytes_at (a + 4) 4096 y) ∷ [])) there
 
-pub changes_more : (at n : ℕ) (y : List ℕ) (c : Change) → c.number ≡ number_at (at + 4100 * n) y → c.content ≡ bytes_at (at + 4100 * n + 4) 4096 y → changes_at at (n + 1) y ≡ changes_at at n y ++ c ∷ []
+pub changes_more : (at n : ℕ) (y : List ℕ) (c : Change) → c.0 ≡ number_at (at + 4100 * n) y → c.1 ≡ bytes_at (at + 4100 * n + 4) 4096 y → changes_at at (n + 1) y ≡ changes_at at n y ++ c ∷ []
 changes_more at n y c number content =
-    let is : c ≡ record { number = number_at (at + 4100 * n) y; content = bytes_at (at + 4100 * n + 4) 4096 y } = (λ i. record { number = number i; content = content i }) in
+    let is : c ≡ (number_at (at + 4100 * n) y, bytes_at (at + 4100 * n + 4) 4096 y) = (λ i. (number i, content i)) in
     ap (λ (k : ℕ). changes_at at k y) (omega arith) ∙ changes_suc at n y ∙ sym (ap (λ (c : Change). changes_at at n y ++ c ∷ []) is)
 
 -- a body doesn't begin with other numbers
@@ -134,8 +127,8 @@ pub some_begin : (at count : ℕ) (told : Option (List ℕ)) (cs : List Change) 
 unfolding least_of changes_at are_changes
 some_begin at count told cs none within = subst (λ (l : List Change). ReadsSome at 0 count 0 told l) (sym none) (record { are = λ y is. (omega (arith, within y is), refl); rise = refl; next = refl })
 
-pub some_more : (at k count least place : ℕ) (told now : Option (List ℕ)) (cs more : List Change) (read : Option Change) (c : Change) → ReadsSome at k count least told cs → now ≡ told → place ≡ at + 4100 * k → read ≡ Some c → ReadsChange place now read → length c.content ≡ 4096 → least ≤ c.number → c.number < count → more ≡ cs ++ c ∷ [] → ReadsSome at (k + 1) count (c.number + 1) told more
-some_more at k count least place told now cs more read c so_far same place_is is_c change whole low high pushed = subst (λ (l : List Change). ReadsSome at (k + 1) count (c.number + 1) told l) (sym pushed) (record {
+pub some_more : (at k count least place : ℕ) (told now : Option (List ℕ)) (cs more : List Change) (read : Option Change) (c : Change) → ReadsSome at k count least told cs → now ≡ told → place ≡ at + 4100 * k → read ≡ Some c → ReadsChange place now read → length c.1 ≡ 4096 → least ≤ c.0 → c.0 < count → more ≡ insert_entry nat_cmp cs c.0 c.1 → ReadsSome at (k + 1) count (c.0 + 1) told more
+some_more at k count least place told now cs more read c so_far same place_is is_c change whole low high put = subst (λ (l : List Change). ReadsSome at (k + 1) count (c.0 + 1) told l) (sym (put ∙ put_in_last 0 count c.0 c.1 cs so_far.rise (omega (arith, so_far.next, low)))) (record {
   are = λ y is.
       let r = change.is c is_c y (same ∙ is) in (
         omega (arith, r.0, place_is),
@@ -152,7 +145,7 @@ some_all at k n count least told cs so_far is y told_is =
     (record { long = omega (arith, s.0, is); rise = sym (ap (are_changes 0 count) same) ∙ so_far.rise }, same)
 
 -- they don't rise
-pub change_wrong : (at k n count least place : ℕ) (told now : Option (List ℕ)) (cs : List Change) (read : Option Change) (c : Change) → ReadsSome at k count least told cs → now ≡ told → place ≡ at + 4100 * k → read ≡ Some c → ReadsChange place now read → k < n → (least ≤ c.number → c.number < count → ⊥) → (y : List ℕ) → told ≡ Some y → AreThere at n count y → ⊥
+pub change_wrong : (at k n count least place : ℕ) (told now : Option (List ℕ)) (cs : List Change) (read : Option Change) (c : Change) → ReadsSome at k count least told cs → now ≡ told → place ≡ at + 4100 * k → read ≡ Some c → ReadsChange place now read → k < n → (least ≤ c.0 → c.0 < count → ⊥) → (y : List ℕ) → told ≡ Some y → AreThere at n count y → ⊥
 change_wrong at k n count least place told now cs read c so_far same place_is is_c change lt wrong y is there =
     let number = (change.is c is_c y (same ∙ is)).1 ∙ ap (λ (p : ℕ). number_at p y) place_is in
     let r = rising_at 0 count at k n y lt there.rise in

@@ -1,16 +1,22 @@
 -- How what device calls do goes on over several of them.
-use Rattle.std.proofs.Common.{◌≡◌, ℕ, ◌≤◌, List, Option, Some, Result, Ok, Err, refl, sym, ◌∙◌, subst, arith}
+use Rattle.std.proofs.Common.{◌≡◌, ℕ, ◌≤◌, List, length, Option, Some, option_map, Result, Ok, Err, OnOk, OnErr, refl, sym, ◌∙◌, ap, subst, arith}
 use Rattle.std.specs.Prelude.{IfOk}
 use Rattle.hal_base.specs.Room.{HasRoom}
 use Rattle.hal_base.specs.Stops.{LeavesOnly, IsTold}
 use Rattle.hal_base.proofs.StopLemmas.{leaves-now}
-use Rattle.block_journal.specs.Device.{SameTold, IsExact}
+use Rattle.hal_base.specs.Disk.{Torn, TearsTold, written}
+use Rattle.hal_base.proofs.ImageLemmas.{torn_whole}
+use Rattle.block_journal.specs.Device.{Became, IsExact}
 
-pub told-same : {old new : Option (List ℕ)} → new ≡ old → SameTold old new
-told-same is = record { told = λ image was. (image, is ∙ was); untold = λ was. is ∙ was }
+pub torn-told : {at n : ℕ} {old new : Option (List ℕ)} → TearsTold at n old new → Became (Torn at n) old new
+torn-told torn = record { told = torn.torn; untold = torn.untold }
 
-pub told-then : {old mid new : Option (List ℕ)} → SameTold old mid → SameTold mid new → SameTold old new
-told-then first second = record { told = λ image was. let t = first.told image was in second.told t.0 t.1; untold = λ was. second.untold (first.untold was) }
+pub written-told : (at : ℕ) (bytes : List ℕ) (old new : Option (List ℕ)) → new ≡ option_map (written at bytes) old → Became (Torn at (length bytes)) old new
+written-told at bytes old new is = record { told = λ y told. (written at bytes y, is ∙ ap (option_map (written at bytes)) told, torn_whole at bytes y); untold = λ none. is ∙ ap (option_map (written at bytes)) none }
+
+pub write-told : {E : Type 0} (result : Result (Unit {0}) E) (at : ℕ) (bytes : List ℕ) (old new : Option (List ℕ)) → OnOk result (new ≡ option_map (written at bytes) old) → OnErr result (TearsTold at (length bytes) old new) → Became (Torn at (length bytes)) old new
+write-told (Ok x) at bytes old new is torn = written-told at bytes old new is
+write-told (Err e) at bytes old new is torn = torn-told torn
 
 pub room-then : {old mid new : Option (ℕ × ℕ)} {before now last : ℕ} {end more : ℕ} → HasRoom old mid before now (λ room. end ≤ room.0) → HasRoom mid new now last (λ room. more ≤ room.0) → more ≤ end → HasRoom old new before last (λ room. end ≤ room.0)
 room-then first second le = record {
@@ -26,6 +32,10 @@ room-larger first le = record { stays = first.stays; quiet = λ room is fits. fi
 
 pub exact-synced : {image next : Option (List ℕ)} {outcomes : List ℕ → List ℕ → Type 0} → next ≡ image → ((bytes text : List ℕ) → outcomes bytes text → IsTold image bytes) → IsExact next outcomes
 exact-synced {image} is only = record { only = λ told was bytes text left. let told_is : image ≡ Some told = sym is ∙ was in let o = only bytes text left in subst (λ (i : Option (List ℕ)). IsTold i bytes) told_is o }
+
+pub on_ok : {T E P : Type 0} (result : Result T E) → P → OnOk result P
+on_ok (Ok x) p = p
+on_ok (Err e) p = tt
 
 pub if_ok : {T E : Type 0} {P Q : T → Type 0} (result : Result T E) → IfOk result P → ((x : T) → P x → Q x) → IfOk result Q
 if_ok (Ok x) p so = so x p

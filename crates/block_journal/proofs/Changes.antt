@@ -6,10 +6,11 @@ use Rattle.std.proofs.lemmas.List.{length-set, ext_get_or, get_or_past, set_past
 use Rattle.std.proofs.lemmas.Nat.{from_be_bytes-to_be_bytes_4}
 use Rattle.std.proofs.lemmas.Bool.{cases_lt, cases_eq, cases_order}
 use Rattle.hal_base.specs.Disk.{written}
-use Rattle.block_journal.specs.declared.change.Change.{Change}
-use Rattle.block_journal.specs.Redo.{bytes_at, number_at, blocks_at, changes_at, put_all, put_image, change_bytes}
+use Rattle.block_journal.specs.Change.{Change}
+use Rattle.block_journal.specs.Redo.{bytes_at, number_at, blocks_at, changes_at, put_all, put_image, change_bytes, body_bytes}
 use Rattle.block_journal.specs.Placing.{AreWhole, IsOutside, SameBut}
 use Rattle.block_journal.proofs.Images.{SameFrom, HoldsAt, bytes_at-same, bytes_at-is, written_inside, written_outside, length-written}
+use Rattle.block_journal.specs.JournalLaw.{length-put_all}
 
 Blocks : Type 0
 Blocks = List (List ℕ)
@@ -17,21 +18,11 @@ Blocks = List (List ℕ)
 -- a change of this number is among them
 abbrev pub IsNamed : ℕ → List Change → Type 0
 IsNamed k [] = ⊥
-IsNamed k (c ∷ cs) = (c.number ≡ k) ⊎ IsNamed k cs
+IsNamed k (c ∷ cs) = (c.0 ≡ k) ⊎ IsNamed k cs
 
-pub length-put_all : (cs : List Change) (blocks : List (List ℕ)) → length (put_all cs blocks) ≡ length blocks
+pub put_all-next : (cs rest : List Change) (c : Change) (blocks : List (List ℕ)) → cs ≡ c ∷ rest → put_all rest (set blocks c.0 c.1) ≡ put_all cs blocks
 unfolding put_all
-length-put_all [] blocks = refl
-length-put_all (c ∷ cs) blocks = length-put_all cs (set blocks c.number c.content) ∙ length-set blocks c.number c.content
-
-pub put_all-more : (cs : List Change) (c : Change) (blocks : List (List ℕ)) → put_all (cs ++ c ∷ []) blocks ≡ set (put_all cs blocks) c.number c.content
-unfolding put_all
-put_all-more [] c blocks = refl
-put_all-more (d ∷ cs) c blocks = put_all-more cs c (set blocks d.number d.content)
-
-pub put_all-none : (blocks : List (List ℕ)) → put_all [] blocks ≡ blocks
-unfolding put_all
-put_all-none blocks = refl
+put_all-next cs rest c blocks is = sym (ap (λ (l : List Change). put_all l blocks) is)
 
 set_both : (k : ℕ) (b : List ℕ) (xs ys : List (List ℕ)) → length xs ≡ length ys → get_or (set xs k b) k [] ≡ get_or (set ys k b) k []
 set_both k b xs ys same = ⊎_elim (inside) (past) (cases_lt k (length xs))
@@ -49,14 +40,14 @@ pub put_all-ext : (cs : List Change) (xs ys : List (List ℕ)) → length xs ≡
 unfolding put_all
 put_all-ext [] xs ys same each = ext_get_or [] xs ys same (λ i lt. ⊎_elim (λ none. absurd none) (λ is. is) (each i))
 put_all-ext (c ∷ cs) xs ys same each =
-    put_all-ext cs (set xs c.number c.content) (set ys c.number c.content) (length-set xs c.number c.content ∙ same ∙ sym (length-set ys c.number c.content)) (λ k. ⊎_elim (at k) (beside k) (cases_eq k c.number))
+    put_all-ext cs (set xs c.0 c.1) (set ys c.0 c.1) (length-set xs c.0 c.1 ∙ same ∙ sym (length-set ys c.0 c.1)) (λ k. ⊎_elim (at k) (beside k) (cases_eq k c.0))
   where
-    at : (k : ℕ) → k ≡ c.number → IsNamed k cs ⊎ (get_or (set xs c.number c.content) k [] ≡ get_or (set ys c.number c.content) k [])
-    at k is = inr (subst (λ (n : ℕ). get_or (set xs n c.content) k [] ≡ get_or (set ys n c.content) k []) is (set_both k c.content xs ys same))
+    at : (k : ℕ) → k ≡ c.0 → IsNamed k cs ⊎ (get_or (set xs c.0 c.1) k [] ≡ get_or (set ys c.0 c.1) k [])
+    at k is = inr (subst (λ (n : ℕ). get_or (set xs n c.1) k [] ≡ get_or (set ys n c.1) k []) is (set_both k c.1 xs ys same))
 
-    beside : (k : ℕ) → (k ≡ c.number → ⊥) → IsNamed k cs ⊎ (get_or (set xs c.number c.content) k [] ≡ get_or (set ys c.number c.content) k [])
+    beside : (k : ℕ) → (k ≡ c.0 → ⊥) → IsNamed k cs ⊎ (get_or (set xs c.0 c.1) k [] ≡ get_or (set ys c.0 c.1) k [])
     beside k ne = ⊎_elim (λ named. ⊎_elim (λ is. absurd (ne (sym is))) (λ among. inl among) named)
-        (λ is. inr (get_or-set_other xs c.number k c.content [] ne ∙ is ∙ sym (get_or-set_other ys c.number k c.content [] ne)))
+        (λ is. inr (get_or-set_other xs c.0 k c.1 [] ne ∙ is ∙ sym (get_or-set_other ys c.0 k c.1 [] ne)))
         (each k)
 
 -- a block that isn't changed stays
@@ -64,8 +55,8 @@ pub put_all-other : (cs : List Change) (blocks : List (List ℕ)) (k : ℕ) → 
 unfolding put_all
 put_all-other [] blocks k = inr refl
 put_all-other (c ∷ cs) blocks k =
-    let rest = put_all-other cs (set blocks c.number c.content) k in
-    ⊎_elim (λ is. inl (inl (sym is))) (λ ne. ⊎_elim (λ among. inl (inr among)) (λ is. inr (is ∙ get_or-set_other blocks c.number k c.content [] ne)) rest) (cases_eq k c.number)
+    let rest = put_all-other cs (set blocks c.0 c.1) k in
+    ⊎_elim (λ is. inl (inl (sym is))) (λ ne. ⊎_elim (λ among. inl (inr among)) (λ is. inr (is ∙ get_or-set_other blocks c.0 k c.1 [] ne)) rest) (cases_eq k c.0)
 
 -- changes that are made already change nothing
 pub put_all-twice : (cs : List Change) (blocks : List (List ℕ)) → put_all cs (put_all cs blocks) ≡ put_all cs blocks
@@ -103,15 +94,15 @@ outside_above first count (c ∷ cs) i whole le = (inr (omega (arith, whole.0, l
 
 block_outside : (first k : ℕ) (cs : List Change) → IsNamed k cs ⊎ ((i : ℕ) → first + 4096 * k ≤ i → i < first + 4096 * k + 4096 → IsOutside first cs i)
 block_outside first k [] = inr (λ i low high. tt)
-block_outside first k (c ∷ cs) = ⊎_elim (λ among. inl (inr among)) (λ rest. ⊎_elim (λ is. inl (inl is)) (⊎_elim (below rest) (above rest)) (cases_order c.number k)) (block_outside first k cs)
+block_outside first k (c ∷ cs) = ⊎_elim (λ among. inl (inr among)) (λ rest. ⊎_elim (λ is. inl (inl is)) (⊎_elim (below rest) (above rest)) (cases_order c.0 k)) (block_outside first k cs)
   where
     Rest : Type 0
     Rest = (i : ℕ) → first + 4096 * k ≤ i → i < first + 4096 * k + 4096 → IsOutside first cs i
 
-    below : ((i : ℕ) → first + 4096 * k ≤ i → i < first + 4096 * k + 4096 → IsOutside first cs i) → c.number < k → IsNamed k (c ∷ cs) ⊎ ((i : ℕ) → first + 4096 * k ≤ i → i < first + 4096 * k + 4096 → IsOutside first (c ∷ cs) i)
+    below : ((i : ℕ) → first + 4096 * k ≤ i → i < first + 4096 * k + 4096 → IsOutside first cs i) → c.0 < k → IsNamed k (c ∷ cs) ⊎ ((i : ℕ) → first + 4096 * k ≤ i → i < first + 4096 * k + 4096 → IsOutside first (c ∷ cs) i)
     below rest lt = inr (λ i low high. (inr (omega (arith, lt, low)), rest i low high))
 
-    above : ((i : ℕ) → first + 4096 * k ≤ i → i < first + 4096 * k + 4096 → IsOutside first cs i) → k < c.number → IsNamed k (c ∷ cs) ⊎ ((i : ℕ) → first + 4096 * k ≤ i → i < first + 4096 * k + 4096 → IsOutside first (c ∷ cs) i)
+    above : ((i : ℕ) → first + 4096 * k ≤ i → i < first + 4096 * k + 4096 → IsOutside first cs i) → k < c.0 → IsNamed k (c ∷ cs) ⊎ ((i : ℕ) → first + 4096 * k ≤ i → i < first + 4096 * k + 4096 → IsOutside first (c ∷ cs) i)
     above rest lt = inr (λ i low high. (inl (omega (arith, lt, high)), rest i low high))
 
 -- images that differ only in the changes' blocks stand for the same blocks with the changes
@@ -154,35 +145,30 @@ blocks_at-written first n k b image lt whole long =
     beside j below ne =
         block_at first n j after below ∙ bytes_at-same (first + 4096 * j) 4096 after image (record { byte = λ i low high. same j i ne low high }) ∙ sym (block_at first n j image below) ∙ sym (get_or-set_other (blocks_at first n image) k j b [] ne)
 
-pub put_image-more : (first : ℕ) (cs : List Change) (c : Change) (image : List ℕ) → put_image first (cs ++ c ∷ []) image ≡ written (first + 4096 * c.number) c.content (put_image first cs image)
-unfolding put_image
-put_image-more first [] c image = refl
-put_image-more first (d ∷ cs) c image = put_image-more first cs c (written (first + 4096 * d.number) d.content image)
-
 pub length-put_image : (first count : ℕ) (cs : List Change) (image : List ℕ) → AreWhole count cs → first + 4096 * count ≤ length image → length (put_image first cs image) ≡ length image
 unfolding put_image
 length-put_image first count [] image whole long = refl
 length-put_image first count (c ∷ cs) image whole long =
-    let kept = length-written (first + 4096 * c.number) c.content image (omega (arith, whole.0, whole.1, long)) in
-    length-put_image first count cs (written (first + 4096 * c.number) c.content image) whole.2 (omega (arith, kept, long)) ∙ kept
+    let kept = length-written (first + 4096 * c.0) c.1 image (omega (arith, whole.0, whole.1, long)) in
+    length-put_image first count cs (written (first + 4096 * c.0) c.1 image) whole.2 (omega (arith, kept, long)) ∙ kept
 
 -- the changes' blocks written to their places are the changes made to the blocks
 pub blocks_at-put_image : (first count : ℕ) (cs : List Change) (image : List ℕ) → AreWhole count cs → first + 4096 * count ≤ length image → blocks_at first count (put_image first cs image) ≡ put_all cs (blocks_at first count image)
 unfolding put_image put_all
 blocks_at-put_image first count [] image whole long = refl
 blocks_at-put_image first count (c ∷ cs) image whole long =
-    let kept = length-written (first + 4096 * c.number) c.content image (omega (arith, whole.0, whole.1, long)) in
-    blocks_at-put_image first count cs (written (first + 4096 * c.number) c.content image) whole.2 (omega (arith, kept, long))
-    ∙ ap (λ (l : List (List ℕ)). put_all cs l) (blocks_at-written first count c.number c.content image whole.0 whole.1 long)
+    let kept = length-written (first + 4096 * c.0) c.1 image (omega (arith, whole.0, whole.1, long)) in
+    blocks_at-put_image first count cs (written (first + 4096 * c.0) c.1 image) whole.2 (omega (arith, kept, long))
+    ∙ ap (λ (l : List (List ℕ)). put_all cs l) (blocks_at-written first count c.0 c.1 image whole.0 whole.1 long)
 
 pub put_image-outside : (first count : ℕ) (cs : List Change) (image : List ℕ) → AreWhole count cs → first + 4096 * count ≤ length image → SameBut first cs (put_image first cs image) image
 unfolding put_image
 put_image-outside first count [] image whole long = record { byte = λ i out. refl }
 put_image-outside first count (c ∷ cs) image whole long =
-    let next : List ℕ = written (first + 4096 * c.number) c.content image in
-    let kept = length-written (first + 4096 * c.number) c.content image (omega (arith, whole.0, whole.1, long)) in
+    let next : List ℕ = written (first + 4096 * c.0) c.1 image in
+    let kept = length-written (first + 4096 * c.0) c.1 image (omega (arith, whole.0, whole.1, long)) in
     let rest = put_image-outside first count cs next whole.2 (omega (arith, kept, long)) in
-    let here = written_outside (first + 4096 * c.number) c.content image (omega (arith, whole.0, long)) in
+    let here = written_outside (first + 4096 * c.0) c.1 image (omega (arith, whole.0, long)) in
     record { byte = λ i out. rest.byte i out.1 ∙ here.byte i (⊎_elim (λ lt. inl lt) (λ le. inr (omega (arith, whole.1, le))) out.0) }
 
 -- what a journal's body reads as
@@ -193,20 +179,32 @@ pub changes_at-is : (at count : ℕ) (cs : List Change) (image : List ℕ) → A
 unfolding changes_at number_at
 changes_at-is at count [] image whole small holds = refl
 changes_at-is at count (c ∷ cs) image whole small holds =
-    let number : List ℕ = to_be_bytes w32 c.number in
+    let number : List ℕ = to_be_bytes w32 c.0 in
     let rest : List ℕ = flat_map change_bytes cs in
-    let long : length (number ++ c.content) ≡ 4100 = omega (arith, length-append number c.content, whole.1, length-number c.number) in
-    let all : length ((number ++ c.content) ++ rest) ≡ 4100 + length rest = omega (arith, length-append (number ++ c.content) rest, long) in
-    let front : (i : ℕ) → i < 4100 → get_or image (at + i) 0 ≡ get_or (number ++ c.content) i 0 = λ i lt. holds.byte i (omega (arith, all, lt)) ∙ get_or_append_left (number ++ c.content) rest 0 i (omega (arith, long, lt)) in
-    let is_number : bytes_at at 4 image ≡ number = bytes_at-is at 4 number image (length-number c.number) (record { byte = λ i lt. front i (omega (arith, lt, length-number c.number)) ∙ get_or_append_left number c.content 0 i lt }) in
-    let is_content : bytes_at (at + 4) 4096 image ≡ c.content = bytes_at-is (at + 4) 4096 c.content image whole.1 (record {
+    let long : length (number ++ c.1) ≡ 4100 = omega (arith, length-append number c.1, whole.1, length-number c.0) in
+    let all : length ((number ++ c.1) ++ rest) ≡ 4100 + length rest = omega (arith, length-append (number ++ c.1) rest, long) in
+    let front : (i : ℕ) → i < 4100 → get_or image (at + i) 0 ≡ get_or (number ++ c.1) i 0 = λ i lt. holds.byte i (omega (arith, all, lt)) ∙ get_or_append_left (number ++ c.1) rest 0 i (omega (arith, long, lt)) in
+    let is_number : bytes_at at 4 image ≡ number = bytes_at-is at 4 number image (length-number c.0) (record { byte = λ i lt. front i (omega (arith, lt, length-number c.0)) ∙ get_or_append_left number c.1 0 i lt }) in
+    let is_content : bytes_at (at + 4) 4096 image ≡ c.1 = bytes_at-is (at + 4) 4096 c.1 image whole.1 (record {
       byte = λ i lt.
-          ap (λ (k : ℕ). get_or image k 0) (omega arith) ∙ front (4 + i) (omega (arith, lt, whole.1)) ∙ get_or-append-add number c.content i 0;
+          ap (λ (k : ℕ). get_or image k 0) (omega arith) ∙ front (4 + i) (omega (arith, lt, whole.1)) ∙ get_or-append-add number c.1 i 0;
     }) in
     let is_rest : changes_at (at + 4100) (length cs) image ≡ cs = changes_at-is (at + 4100) count cs image whole.2 small (record {
       byte = λ i lt.
-          let past : 4100 + i ≡ length (number ++ c.content) + i = omega (arith, long) in
-          ap (λ (k : ℕ). get_or image k 0) (omega arith) ∙ holds.byte (4100 + i) (omega (arith, all, lt)) ∙ ap (λ (k : ℕ). get_or ((number ++ c.content) ++ rest) k 0) past ∙ get_or-append-add (number ++ c.content) rest i 0;
+          let past : 4100 + i ≡ length (number ++ c.1) + i = omega (arith, long) in
+          ap (λ (k : ℕ). get_or image k 0) (omega arith) ∙ holds.byte (4100 + i) (omega (arith, all, lt)) ∙ ap (λ (k : ℕ). get_or ((number ++ c.1) ++ rest) k 0) past ∙ get_or-append-add (number ++ c.1) rest i 0;
     }) in
-    let number_is : from_be_bytes w32 (bytes_at at 4 image) ≡ c.number = ap (from_be_bytes w32) is_number ∙ from_be_bytes-to_be_bytes_4 c.number (omega (arith, whole.0, small)) in
-    (λ i. record { number = number_is i; content = is_content i } ∷ is_rest i)
+    let number_is : from_be_bytes w32 (bytes_at at 4 image) ≡ c.0 = ap (from_be_bytes w32) is_number ∙ from_be_bytes-to_be_bytes_4 c.0 (omega (arith, whole.0, small)) in
+    (λ i. (number_is i, is_content i) ∷ is_rest i)
+
+pub length-flat : (count : ℕ) (cs : List Change) → AreWhole count cs → length (flat_map change_bytes cs) ≡ 4100 * length cs
+length-flat count [] whole = refl
+length-flat count (c ∷ cs) whole =
+    let rest = length-flat count cs whole.2 in
+    let four : length (to_be_bytes w32 c.0) ≡ 4 = refl in
+    omega (arith, rest, four, whole.1, length-append (change_bytes c) (flat_map change_bytes cs), length-append (to_be_bytes w32 c.0) c.1)
+
+pub length-body : (count : ℕ) (cs : List Change) → AreWhole count cs → length (body_bytes cs) ≡ 8 + 4100 * length cs
+length-body count cs whole =
+    let eight : length (to_be_bytes w32 (length cs) ++ to_be_bytes w32 1) ≡ 8 = refl in
+    omega (arith, eight, length-flat count cs whole, length-append (to_be_bytes w32 (length cs) ++ to_be_bytes w32 1) (flat_map change_bytes cs))

@@ -1,64 +1,57 @@
 -- What may be left while blocks are being written to their places.
-use Rattle.std.proofs.Common.{◌≡◌, inl, inr, ⊎_elim, ℕ, zero, suc, ◌+◌, ◌*◌, ◌<◌, List, [], ◌∷◌, length, take, get_or, Option, None, Some, option_map, refl, sym, ◌∙◌, ap, arith}
-use Rattle.std.proofs.lemmas.List.{take_more}
-use Rattle.hal_base.specs.Disk.{written}
-use Rattle.hal_base.specs.Stops.{LeavesOnly, TornFrom}
+use Rattle.std.proofs.Common.{◌≡◌, inl, inr, ⊎_elim, ℕ, ◌+◌, ◌*◌, ◌<◌, List, [], ◌∷◌, Option, None, Some, option_map, refl, sym, ◌∙◌, ap, arith}
+use Rattle.hal_base.specs.Disk.{Torn, written}
+use Rattle.hal_base.specs.Stops.{LeavesOnly}
 use Rattle.hal_base.proofs.StopLemmas.{leaves-then, leaves-now}
 use Rattle.block_journal.specs.Redo.{put_image}
-use Rattle.block_journal.proofs.Changes.{put_image-more}
-use Rattle.block_journal.specs.declared.change.Change.{Change}
-use Rattle.block_journal.specs.Placing.{AreWhole, IsOutside, PlacedFrom}
+use Rattle.block_journal.specs.Change.{Change}
+use Rattle.block_journal.specs.Placing.{IsOutside, Places, PlacedFrom}
+use Rattle.block_journal.specs.Device.{Became}
 use Rattle.block_journal.proofs.Images.{torn_outside}
 
-pub placed_one : (outcomes : List ℕ → List ℕ → Type 0) (first count at n : ℕ) (c : Change) (x s : List ℕ) → c.number < count → at ≡ first + 4096 * c.number → n ≡ 4096 → TornFrom outcomes at n x s → PlacedFrom outcomes first count (c ∷ []) x s
-placed_one outcomes first count at n c x s below at_is n_is from = (
-  from.0,
-  from.1,
-  λ long.
-      let same = torn_outside at n from.0 x (omega (arith, at_is, long, below)) from.2 in
-      (record { byte = λ i out. same.byte i (⊎_elim (λ lt. inl (omega (arith, at_is, lt))) (λ le. inr (omega (arith, at_is, n_is, le))) out.0) }, from.2.no_shorter),
-)
+pub places_one : (first count at n : ℕ) (c : Change) (y x : List ℕ) → c.0 < count → at ≡ first + 4096 * c.0 → n ≡ 4096 → Torn at n y x → Places first count (c ∷ []) y x
+places_one first count at n c y x below at_is n_is torn long =
+    let same = torn_outside at n y x (omega (arith, at_is, long, below)) torn in
+    (record { byte = λ i out. same.byte i (⊎_elim (λ lt. inl (omega (arith, at_is, lt))) (λ le. inr (omega (arith, at_is, n_is, le))) out.0) }, torn.no_shorter)
 
 -- the changes one after another
-pub placed_more : (outcomes : List ℕ → List ℕ → Type 0) (first count : ℕ) (cs more : List Change) (x s : List ℕ) → ((i : ℕ) → IsOutside first cs i → IsOutside first more i) → PlacedFrom (PlacedFrom outcomes first count cs) first count more x s → PlacedFrom outcomes first count cs x s
-placed_more outcomes first count cs more x s among from = (
-  from.1.0,
-  from.1.1,
-  λ long.
-      let first_step = from.1.2 long in
-      let second_step = from.2 (omega (arith, long, first_step.1)) in
-      (record { byte = λ i out. second_step.0.byte i (among i out) ∙ first_step.0.byte i out }, omega (arith, first_step.1, second_step.1)),
-)
+pub places_then : (first count : ℕ) (cs more : List Change) (x y z : List ℕ) → ((i : ℕ) → IsOutside first cs i → IsOutside first more i) → Places first count cs x y → Places first count more y z → Places first count cs x z
+places_then first count cs more x y z among first_step second_step long =
+    let one = first_step long in
+    let two = second_step (omega (arith, long, one.1)) in
+    (record { byte = λ i out. two.0.byte i (among i out) ∙ one.0.byte i out }, omega (arith, one.1, two.1))
 
-pub placed_none : (outcomes : List ℕ → List ℕ → Type 0) (first count : ℕ) (cs : List Change) (x s : List ℕ) → outcomes x s → PlacedFrom outcomes first count cs x s
-placed_none outcomes first count cs x s left = (x, left, λ long. (record { byte = λ i out. refl }, omega arith))
-
--- a byte that none of the changes covers is not covered by one of them
-pub outside_one : (first : ℕ) (cs : List Change) (k : ℕ) (d : Change) → k < length cs → (i : ℕ) → IsOutside first cs i → IsOutside first (get_or cs k d ∷ []) i
-outside_one first [] k d lt i out = absurd (omega (arith, lt))
-outside_one first (c ∷ cs) zero d lt i out = (out.0, tt)
-outside_one first (c ∷ cs) (suc k) d lt i out = outside_one first cs k d (omega (arith, lt)) i out.1
-
--- each of the changes is whole
-pub whole_one : (count : ℕ) (cs : List Change) (k : ℕ) (d : Change) → AreWhole count cs → k < length cs → AreWhole count (get_or cs k d ∷ [])
-whole_one count [] k d whole lt = absurd (omega (arith, lt))
-whole_one count (c ∷ cs) zero d whole lt = (whole.0, whole.1, tt)
-whole_one count (c ∷ cs) (suc k) d whole lt = whole_one count cs k d whole.2 (omega (arith, lt))
-
-pub image_none : (first : ℕ) (image : Option (List ℕ)) → image ≡ option_map (put_image first []) image
-unfolding put_image
-image_none first None = refl
-image_none first (Some x) = refl
-
-pub image_more : (first k : ℕ) (cs : List Change) (d : Change) (image now next : Option (List ℕ)) → k < length cs → now ≡ option_map (put_image first (take k cs)) image → next ≡ option_map (written (first + 4096 * (get_or cs k d).number) (get_or cs k d).content) now → next ≡ option_map (put_image first (take (k + 1) cs)) image
-image_more first k cs d image now next lt is more = more ∙ ap (option_map (written (first + 4096 * (get_or cs k d).number) (get_or cs k d).content)) is ∙ at image
-  where
-    at : (image : Option (List ℕ)) → option_map (written (first + 4096 * (get_or cs k d).number) (get_or cs k d).content) (option_map (put_image first (take k cs)) image) ≡ option_map (put_image first (take (k + 1) cs)) image
-    at None = refl
-    at (Some x) = ap Some (sym (ap (λ (l : List Change). put_image first l x) (take_more cs k d lt) ∙ put_image-more first (take k cs) (get_or cs k d) x))
+pub places_same : (first count : ℕ) (cs : List Change) (x : List ℕ) → Places first count cs x x
+places_same first count cs x long = (record { byte = λ i out. refl }, omega arith)
 
 -- one change more
-pub placed_next : {a b c : ℕ} {past mid at : ℕ → List ℕ → List ℕ → Type 0} (first count k : ℕ) (cs : List Change) (d : Change) → k < length cs → LeavesOnly a b past mid (PlacedFrom (past a) first count cs) → LeavesOnly b c mid at (PlacedFrom (mid b) first count (get_or cs k d ∷ [])) → LeavesOnly a c past at (PlacedFrom (past a) first count cs)
-placed_next {a} {b} {c} {past} {mid} {at} first count k cs d lt so_far next =
-    leaves-then so_far next (λ x s left. placed_more (past a) first count cs (get_or cs k d ∷ []) x s (outside_one first cs k d lt)
-    (left.0, leaves-now so_far (placed_none (past a) first count cs) left.0 s left.1, left.2))
+module _ (first count : ℕ) (cs : List Change) (c : Change) (among : (i : ℕ) → IsOutside first cs i → IsOutside first (c ∷ []) i) where
+  pub placed_next : {a b d : ℕ} {past mid at : ℕ → List ℕ → List ℕ → Type 0} → LeavesOnly a b past mid (PlacedFrom (past a) first count cs) → LeavesOnly b d mid at (PlacedFrom (mid b) first count (c ∷ [])) → LeavesOnly a d past at (PlacedFrom (past a) first count cs)
+  placed_next {a} {b} {d} {past} {mid} {at} so_far next = leaves-then so_far next (λ x s left.
+      let from = leaves-now so_far (λ x s was. (x, was, places_same first count cs x)) left.0 s left.1 in
+      (from.0, from.1, places_then first count cs (c ∷ []) from.0 left.0 x among from.2 left.2))
+
+  pub told_next : {old mid new : Option (List ℕ)} → Became (Places first count cs) old mid → Became (Places first count (c ∷ [])) mid new → Became (Places first count cs) old new
+  told_next so_far next = record {
+    told = λ y told.
+        let one = so_far.told y told in
+        let two = next.told one.0 one.1 in
+        (two.0, two.1, places_then first count cs (c ∷ []) y one.0 two.0 among one.2 two.2);
+    untold = λ none. next.untold (so_far.untold none);
+  }
+
+pub image_end : (first : ℕ) (cs : List Change) (image : Option (List ℕ)) → cs ≡ [] → option_map (put_image first cs) image ≡ image
+unfolding put_image
+image_end first cs image is = ap (λ (l : List Change). option_map (put_image first l) image) is ∙ none image
+  where
+    none : (image : Option (List ℕ)) → option_map (put_image first []) image ≡ image
+    none None = refl
+    none (Some x) = refl
+
+pub image_next : (first : ℕ) (cs rest : List Change) (c : Change) (image next : Option (List ℕ)) → cs ≡ c ∷ rest → next ≡ option_map (written (first + 4096 * c.0) c.1) image → option_map (put_image first rest) next ≡ option_map (put_image first cs) image
+unfolding put_image
+image_next first cs rest c image next is more = ap (option_map (put_image first rest)) more ∙ one image ∙ ap (λ (l : List Change). option_map (put_image first l) image) (sym is)
+  where
+    one : (image : Option (List ℕ)) → option_map (put_image first rest) (option_map (written (first + 4096 * c.0) c.1) image) ≡ option_map (put_image first (c ∷ rest)) image
+    one None = refl
+    one (Some x) = refl

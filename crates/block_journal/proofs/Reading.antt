@@ -1,5 +1,6 @@
 -- What an opening reads.
 use Rattle.std.proofs.Common.{◌≡◌, ⊎_elim, ℕ, zero, suc, ◌+◌, ◌-◌, ◌*◌, ◌<◌, ◌≤◌, List, [], ◌∷◌, ◌++◌, length, get_or, ◌==◌, take, drop, replicate, Option, None, Some, option_map, refl, sym, ◌∙◌, ap, subst, arith, length-append, length-drop, append_assoc}
+use Rattle.std.proofs.lemmas.Option.{none-some, same_Some}
 use Rattle.std.specs.Prelude.{IfSome, All}
 use Rattle.std.proofs.lemmas.List.{length-take, take_all, drop_all, append-nil, replicate_more, get_or_append_left, get_or-append_right, get_or-replicate, get_or_past, get_or-take, get_or-drop, length-replicate}
 use Rattle.std.proofs.lemmas.Bool.{cases_lt, ne_eqb}
@@ -26,32 +27,26 @@ filled_is at y short =
 pub filled_same : (at : ℕ) (y : List ℕ) (i : ℕ) → length y ≤ at → get_or (written at (0 ∷ []) y) i 0 ≡ get_or y i 0
 filled_same at y i short = ap (λ (l : List ℕ). get_or l i 0) (filled_is at y short) ∙ zeros_behind (at - length y + 1) y i
 
-some_is : (x y : List ℕ) → Some x ≡ Some y → x ≡ y
-some_is x y is = cc
-
-none_told : (z : List ℕ) → None ≡ Some z → ⊥
-none_told z is = cc
-
 pub ready_filled : (first count at : ℕ) (image final : Option (List ℕ)) → at + 1 ≡ first + 4096 * count → final ≡ option_map (written at (0 ∷ [])) image → ((y : List ℕ) → image ≡ Some y → length y ≤ at) → IsReady first count image final
-ready_filled first count at None final at_is is short = record { long = λ z told. absurd (none_told z (sym is ∙ told)); same = λ y z was told i. absurd (none_told z (sym is ∙ told)) }
+ready_filled first count at None final at_is is short = record { long = λ z told. absurd (none-some z (sym is ∙ told)); same = λ y z was told i. absurd (none-some z (sym is ∙ told)) }
 ready_filled first count at (Some x) final at_is is short = record {
-  long = λ z told. subst (λ (z : List ℕ). first + 4096 * count ≤ length z) (some_is (written at (0 ∷ []) x) z (sym is ∙ told)) (omega (arith, at_is, length-written_max at (0 ∷ []) x));
+  long = λ z told. subst (λ (z : List ℕ). first + 4096 * count ≤ length z) (same_Some (written at (0 ∷ []) x) z (sym is ∙ told)) (omega (arith, at_is, length-written_max at (0 ∷ []) x));
   same = λ y z was told i.
-      ap (λ (l : List ℕ). get_or l i 0) (sym (some_is (written at (0 ∷ []) x) z (sym is ∙ told))) ∙ filled_same at x i (short x refl) ∙ ap (λ (l : List ℕ). get_or l i 0) (some_is x y was);
+      ap (λ (l : List ℕ). get_or l i 0) (sym (same_Some (written at (0 ∷ []) x) z (sym is ∙ told))) ∙ filled_same at x i (short x refl) ∙ ap (λ (l : List ℕ). get_or l i 0) (same_Some x y was);
 }
 
 -- a read of one byte that gave none
 pub short_from : (at n : ℕ) (buf : List ℕ) (image : Option (List ℕ)) (y : List ℕ) → image ≡ Some y → IfSome image (λ bytes. take n buf ≡ take (length buf) (drop at bytes)) → length buf ≡ 1 → n ≤ length buf → (n ≡ 1 → ⊥) → length y ≤ at
-short_from at n buf None y told read one within ne = absurd (none_told y told)
+short_from at n buf None y told read one within ne = absurd (none-some y told)
 short_from at n buf (Some x) y told read one within ne =
     let e = ap length read in
-    let x_is : length x ≡ length y = ap length (some_is x y told) in
+    let x_is : length x ≡ length y = ap length (same_Some x y told) in
     omega (arith, e, length-take n buf, length-take (length buf) (drop at x), length-drop at x, one, within, ne, x_is)
 
 -- a read of a block
 pub block_from : (at n : ℕ) (buf : List ℕ) (image : Option (List ℕ)) → IfSome image (λ bytes. take n buf ≡ take (length buf) (drop at bytes)) → length buf ≡ 4096 → n ≤ length buf → ReadsBlock at image buf
-block_from at n buf None read long within = record { is = λ y told far. absurd (none_told y told) }
-block_from at n buf (Some x) read long within = record { is = λ y told far. subst (λ (y : List ℕ). buf ≡ bytes_at at 4096 y) (some_is x y told) (block (subst (λ (y : List ℕ). at + 4096 ≤ length y) (sym (some_is x y told)) far)) }
+block_from at n buf None read long within = record { is = λ y told far. absurd (none-some y told) }
+block_from at n buf (Some x) read long within = record { is = λ y told far. subst (λ (y : List ℕ). buf ≡ bytes_at at 4096 y) (same_Some x y told) (block (subst (λ (y : List ℕ). at + 4096 ≤ length y) (sym (same_Some x y told)) far)) }
   where
     block : at + 4096 ≤ length x → buf ≡ bytes_at at 4096 x
     block far =
@@ -79,8 +74,8 @@ blocks_none at image = refl
 
 -- a read of the gate that gave its byte, and one that gave none
 pub gate_byte : (n : ℕ) (buf : List ℕ) (image : Option (List ℕ)) (y : List ℕ) → image ≡ Some y → IfSome image (λ bytes. take n buf ≡ take (length buf) (drop 4096 bytes)) → length buf ≡ 1 → n ≡ 1 → (get_or buf 0 0 == 1) ≡ is_open y
-gate_byte n buf None y told read one whole = absurd (none_told y told)
-gate_byte n buf (Some x) y told read one whole = ap (λ (b : ℕ). b == 1) (sym (get_or-take n buf 0 0 (omega (arith, whole))) ∙ ap (λ (l : List ℕ). get_or l 0 0) read ∙ get_or-take (length buf) (drop 4096 x) 0 0 (omega (arith, one)) ∙ get_or-drop 4096 x 0 0 ∙ ap (λ (l : List ℕ). get_or l 4096 0) (some_is x y told))
+gate_byte n buf None y told read one whole = absurd (none-some y told)
+gate_byte n buf (Some x) y told read one whole = ap (λ (b : ℕ). b == 1) (sym (get_or-take n buf 0 0 (omega (arith, whole))) ∙ ap (λ (l : List ℕ). get_or l 0 0) read ∙ get_or-take (length buf) (drop 4096 x) 0 0 (omega (arith, one)) ∙ get_or-drop 4096 x 0 0 ∙ ap (λ (l : List ℕ). get_or l 4096 0) (same_Some x y told))
 
 pub gate_none : (n : ℕ) (buf : List ℕ) (image : Option (List ℕ)) (y : List ℕ) → image ≡ Some y → IfSome image (λ bytes. take n buf ≡ take (length buf) (drop 4096 bytes)) → length buf ≡ 1 → n ≤ length buf → (n ≡ 1 → ⊥) → (n == 1) ≡ is_open y
 gate_none n buf image y told read one within ne = ne_eqb n 1 ne ∙ ap (λ (b : ℕ). b == 1) (sym (get_or_past y 4096 0 (short_from 4096 n buf image y told read one within ne)))

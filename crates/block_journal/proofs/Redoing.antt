@@ -1,41 +1,20 @@
 -- What a stop leaves while an open journal is redone: images that stand for the same blocks.
-use Rattle.std.proofs.Common.{◌≡◌, inr, ⊎_elim, ℕ, zero, suc, ◌+◌, ◌*◌, ◌≤◌, Bool, true, false, cond, ◌==◌, List, [], ◌∷◌, length, get_or, refl, sym, ◌∙◌, ap, arith}
-use Rattle.std.specs.Int.{w32, from_be_bytes}
+use Rattle.std.proofs.Common.{◌≡◌, inr, ⊎_elim, ℕ, ◌+◌, ◌*◌, ◌≤◌, Bool, true, cond, ◌==◌, List, [], ◌∷◌, length, get_or, sym, ◌∙◌, ap, arith}
 use Rattle.std.proofs.lemmas.Bool.{cases_Bool}
 use Rattle.hal_base.specs.Disk.{written, Torn}
-use Rattle.block_journal.specs.declared.change.Change.{Change}
-use Rattle.block_journal.specs.Redo.{number_at, bytes_at, blocks_at, changes_at, put_all, put_image, is_open, journal_of, redone}
+use Rattle.block_journal.specs.Change.{Change}
+use Rattle.block_journal.specs.Redo.{blocks_at, put_all, put_image, is_open, journal_of, redone}
 use Rattle.block_journal.specs.Commit.{IsSettled}
-use Rattle.block_journal.specs.Placing.{AreWhole, SameBut}
-use Rattle.block_journal.specs.Redoing.{IsToRedo}
-use Rattle.block_journal.proofs.Images.{SameOutside, bytes_at-same, torn_outside, written_inside, written_outside, length-written}
+use Rattle.block_journal.specs.Placing.{AreWhole, SameBut, Places}
+use Rattle.block_journal.specs.Redoing.{IsToRedo, RedoMakes}
+use Rattle.block_journal.proofs.Fronts.{journal_of-ext, blocks_body, blocks_front, gate_front}
+use Rattle.block_journal.proofs.Images.{SameOutside, torn_outside, written_inside, written_outside, length-written}
 use Rattle.block_journal.proofs.Changes.{blocks_at-ext, put_all-same, put_all-twice, outside_below, outside_above, length-put_image, blocks_at-put_image, put_image-outside}
-
-pub redone_closed : (first count : ℕ) (x : List ℕ) → is_open x ≡ false → redone first count x ≡ blocks_at first count x
-unfolding redone
-redone_closed first count x closed = ap (λ (b : Bool). cond b (put_all (journal_of first count x) (blocks_at first count x)) (blocks_at first count x)) closed
+use Rattle.block_journal.specs.JournalLaw.{keeps_then, redone_closed}
 
 pub redone_open : (first count : ℕ) (x : List ℕ) → is_open x ≡ true → redone first count x ≡ put_all (journal_of first count x) (blocks_at first count x)
 unfolding redone
 redone_open first count x opened = ap (λ (b : Bool). cond b (put_all (journal_of first count x) (blocks_at first count x)) (blocks_at first count x)) opened
-
-pub number_at-ext : (at : ℕ) (x y : List ℕ) → ((i : ℕ) → at ≤ i → get_or x i 0 ≡ get_or y i 0) → number_at at x ≡ number_at at y
-unfolding number_at
-number_at-ext at x y same = ap (from_be_bytes w32) (bytes_at-same at 4 x y (record { byte = λ i low high. same i low }))
-
-pub changes_at-ext : (at n : ℕ) (x y : List ℕ) → ((i : ℕ) → at ≤ i → get_or x i 0 ≡ get_or y i 0) → changes_at at n x ≡ changes_at at n y
-unfolding changes_at
-changes_at-ext at zero x y same = refl
-changes_at-ext at (suc n) x y same =
-    let number : number_at at x ≡ number_at at y = number_at-ext at x y same in
-    let content : bytes_at (at + 4) 4096 x ≡ bytes_at (at + 4) 4096 y = bytes_at-same (at + 4) 4096 x y (record { byte = λ i low high. same i (omega (arith, low)) }) in
-    let rest = changes_at-ext (at + 4100) n x y (λ i low. same i (omega (arith, low))) in
-    (λ i. record { number = number i; content = content i } ∷ rest i)
-
-pub journal_of-ext : (first count : ℕ) (x y : List ℕ) → ((i : ℕ) → first + 4096 * count ≤ i → get_or x i 0 ≡ get_or y i 0) → journal_of first count x ≡ journal_of first count y
-journal_of-ext first count x y same =
-    ap (λ (n : ℕ). changes_at (first + 4096 * count + 8) n x) (number_at-ext (first + 4096 * count) x y same)
-    ∙ changes_at-ext (first + 4096 * count + 8) (number_at (first + 4096 * count) y) x y (λ i low. same i (omega (arith, low)))
 
 module _ (first count : ℕ) (cs : List Change) (y : List ℕ) (behind : 8192 ≤ first) (whole : AreWhole count cs) (redo : IsToRedo first count cs y) where
   long : first + 4096 * count ≤ length y
@@ -83,6 +62,21 @@ module _ (first count : ℕ) (cs : List Change) (y : List ℕ) (behind : 8192 �
           ∙ ap (λ (l : List (List ℕ)). put_all cs l) blocks_same
           ∙ put_all-twice cs (blocks_at first count y)
           ∙ sym redone_changes
+
+  same_long : length y ≤ length (put_image first cs y)
+  same_long = omega (arith, length-put_image first count cs y whole long)
+
+  -- in each step the same redo and front
+  pub placing_makes : (x : List ℕ) → Places first count cs y x → RedoMakes first count y x
+  placing_makes x placed enough =
+      let p = placed enough in
+      (placing_keeps x p.0, blocks_front first count y x behind long cs whole redo.body p.0 p.1)
+
+  pub closing_makes : (x : List ℕ) → Torn 4096 1 (put_image first cs y) x → RedoMakes first count y x
+  closing_makes x torn enough =
+      let placed = blocks_front first count y (put_image first cs y) behind long cs whole redo.body placed_outside same_long in
+      let body = blocks_body first count y (put_image first cs y) behind long cs whole redo.body placed_outside same_long in
+      (closing_keeps x torn, keeps_then placed (gate_front first count (put_image first cs y) x behind long_placed body torn))
 
   -- the gate is closed
   pub redo_settled : IsSettled first count (written 4096 (0 ∷ []) (put_image first cs y)) × (blocks_at first count (written 4096 (0 ∷ []) (put_image first cs y)) ≡ redone first count y)

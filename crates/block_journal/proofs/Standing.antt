@@ -1,121 +1,104 @@
 -- What a journal tells, by what its site tells.
-use Rattle.std.proofs.Common.{◌≡◌, inl, inr, ⊎_elim, ℕ, ◌<◌, ◌≤◌, Bool, true, false, List, [], ◌∷◌, ◌++◌, length, set, Option, None, Some, option_map, Result, Ok, Err, OnOk, OnErr, is_err, refl, sym, ◌∙◌, ap, subst, arith, cond, nat_le}
-use Rattle.std.specs.Prelude.{All, IfSome}
-use Rattle.std.proofs.lemmas.List.Elements.{All-set}
+use Rattle.std.proofs.Common.{◌≡◌, ◌⊎◌, inl, inr, ⊎_elim, ℕ, ◌<◌, ◌≤◌, Bool, true, false, List, [], ◌++◌, length, set, Option, None, Some, option_map, Result, Ok, Err, OnOk, OnErr, is_err, refl, sym, ◌∙◌, ap, subst, arith, cond, nat_le}
+use Rattle.std.proofs.lemmas.Option.{none-some, same_Some}
 use Rattle.std.proofs.lemmas.Bool.{cases_Bool, leb-true, le-leb, true≢false}
 use Rattle.std.proofs.lemmas.List.{append-nil}
 use Rattle.std.specs.Io.KnownBytes.{append_known}
+use Rattle.std.specs.BTreeMap.{insert_entry}
+use Rattle.std.specs.Ordering.{nat_cmp}
 use Rattle.hal_base.specs.Room.{HasRoom, HasSayRoom}
-use Rattle.hal_base.specs.Stops.{LeavesOnly, LeavesExactly, IsTold, CommitLeaves, SayLeaves, SaidFrom, Read}
-use Rattle.hal_base.proofs.StopLemmas.{leaves-read, leaves-now}
-use Rattle.block_journal.specs.declared.change.Change.{Change}
-use Rattle.block_journal.specs.Commit.{IsSettled, CommitFrom, HasChanges}
-use Rattle.block_journal.specs.Device.{IsExact, SameTold}
-use Rattle.block_journal.specs.Placing.{AreWhole}
+use Rattle.hal_base.specs.StoreCalls.{StoreView, LeavesSame, NoCall}
+use Rattle.hal_base.specs.Stops.{LeavesOnly, IsTold, CommitLeaves, SayLeaves, SaidFrom, Read}
+use Rattle.hal_base.proofs.StopLemmas.{leaves-read, leaves-now, leaves-weaken}
+use Rattle.block_journal.specs.Change.{Change}
+use Rattle.block_journal.specs.Commit.{IsSettled, CommitMakes, HasChanges}
+use Rattle.block_journal.specs.Device.{Became, MadeFrom, IsExact}
+use Rattle.block_journal.specs.Front.{KeepsFront}
 use Rattle.block_journal.specs.Redo.{blocks_at, redone, put_all, are_changes}
-use Rattle.block_journal.specs.Staged.{put_in}
 use Rattle.block_journal.specs.Stands.{Stands, told_where, say_room}
-use Rattle.block_journal.proofs.Redoing.{redone_closed}
-use Rattle.block_journal.proofs.Changes.{length-put_all, put_all-none}
-use Rattle.block_journal.proofs.Rising.{are_whole, are_few, put_in_blocks, put_in_changes}
-
-pub told_redone : (first count : ℕ) (kept : List (List ℕ)) (image : Option (List ℕ)) (outcomes : List ℕ → List ℕ → Type 0) → Stands first count kept image outcomes → (x s : List ℕ) → outcomes x s → IsTold (told_where image kept) (redone first count x)
-told_redone first count kept None outcomes stands x s left = tt
-told_redone first count kept (Some y) outcomes stands x s left =
-    ap (redone first count) (stands.exact.only y refl x s left) ∙ redone_closed first count y (stands.settled y refl).closed ∙ stands.blocks y refl
-
--- a live journal leaves just what it tells
-pub stands_exactly : (first count now : ℕ) (kept : List (List ℕ)) (image said : Option (List ℕ)) (at : ℕ → List ℕ → List ℕ → Type 0) → Stands first count kept image (at now) → ((x s : List ℕ) → at now x s → IsTold said s) → LeavesExactly now (Read (redone first count) at) (told_where image kept) said
-stands_exactly first count now kept image said at stands said_now = record {
-  kept_is = λ b s left. subst (λ (b : List (List ℕ)). IsTold (told_where image kept) b) (sym left.2) (told_redone first count kept image (at now) stands left.0 s left.1);
-  said_is = λ b s left. said_now left.0 s left.1;
-}
-
-pub told_length : (image : Option (List ℕ)) (cs : List Change) (kept : List (List ℕ)) (count : ℕ) → length kept ≡ count → IfSome (told_where image (put_all cs kept)) (λ blocks. length blocks ≡ count)
-told_length None cs kept count is = tt
-told_length (Some x) cs kept count is = length-put_all cs kept ∙ is
-
-put_all_whole : (count : ℕ) (cs : List Change) (kept : List (List ℕ)) → AreWhole count cs → All (λ block. length block ≡ 4096) kept → All (λ block. length block ≡ 4096) (put_all cs kept)
-unfolding put_all
-put_all_whole count [] kept whole each = each
-put_all_whole count (c ∷ cs) kept whole each = put_all_whole count cs (set kept c.number c.content) whole.2 (All-set (λ (block : List ℕ). length block ≡ 4096) kept c.number c.content whole.1 each)
-
-pub put_all-whole : (count : ℕ) (cs : List Change) (kept : List (List ℕ)) → are_changes 0 count cs ≡ true → All (λ block. length block ≡ 4096) kept → All (λ block. length block ≡ 4096) (put_all cs kept)
-put_all-whole count cs kept rise each = put_all_whole count cs kept (are_whole 0 count cs rise) each
-
-pub told_whole : (image : Option (List ℕ)) (count : ℕ) (cs : List Change) (kept : List (List ℕ)) → are_changes 0 count cs ≡ true → All (λ block. length block ≡ 4096) kept → IfSome (told_where image (put_all cs kept)) (All (λ block. length block ≡ 4096))
-told_whole None count cs kept rise each = tt
-told_whole (Some x) count cs kept rise each = put_all-whole count cs kept rise each
+use Rattle.block_journal.specs.Steady.{IsSteady}
+use Rattle.block_journal.proofs.Made.{became-so}
+use Rattle.block_journal.proofs.Rising.{are_few, put_in_blocks, put_in_changes}
+use Rattle.block_journal.specs.JournalLaw.{became-waits, keeps_refl, told_redone}
 
 -- a change more is staged, or none
-pub staged_rise : {E : Type 0} (result : Result (Unit {0}) E) (count n : ℕ) (b : List ℕ) (old new : List Change) → OnOk result (new ≡ put_in n b old) → OnErr result (new ≡ old) → n < count → length b ≡ 4096 → are_changes 0 count old ≡ true → are_changes 0 count new ≡ true
+pub staged_rise : {T E : Type 0} (result : Result T E) (count n : ℕ) (b : List ℕ) (old new : List Change) → OnOk result (new ≡ insert_entry nat_cmp old n b) → OnErr result (new ≡ old) → n < count → length b ≡ 4096 → are_changes 0 count old ≡ true → are_changes 0 count new ≡ true
 staged_rise (Ok x) count n b old new ok err below whole rise = subst (λ (l : List Change). are_changes 0 count l ≡ true) (sym ok) (put_in_changes 0 count n b old (omega arith) below whole rise)
 staged_rise (Err e) count n b old new ok err below whole rise = subst (λ (l : List Change). are_changes 0 count l ≡ true) (sym err) rise
 
-pub staged_list : (image : Option (List ℕ)) (count n : ℕ) (b : List ℕ) (old new : List Change) (kept : List (List ℕ)) → new ≡ put_in n b old → are_changes 0 count old ≡ true → told_where image (put_all new kept) ≡ option_map (λ blocks. set blocks n b) (told_where image (put_all old kept))
+pub staged_list : (image : Option (List ℕ)) (count n : ℕ) (b : List ℕ) (old new : List Change) (kept : List (List ℕ)) → new ≡ insert_entry nat_cmp old n b → are_changes 0 count old ≡ true → told_where image (put_all new kept) ≡ option_map (λ blocks. set blocks n b) (told_where image (put_all old kept))
 staged_list None count n b old new kept is rise = refl
 staged_list (Some x) count n b old new kept is rise = ap Some (ap (λ (l : List Change). put_all l kept) is ∙ put_in_blocks 0 count n b old kept rise)
 
-pub told_same : (old new : Option (List ℕ)) (blocks : List (List ℕ)) → SameTold old new → told_where new blocks ≡ told_where old blocks
+pub told_same : {R : List ℕ → List ℕ → Type 0} (old new : Option (List ℕ)) (blocks : List (List ℕ)) → Became R old new → told_where new blocks ≡ told_where old blocks
 told_same None new blocks same = ap (λ (i : Option (List ℕ)). told_where i blocks) (same.untold refl)
 told_same (Some x) new blocks same = let t = same.told x refl in ap (λ (i : Option (List ℕ)). told_where i blocks) t.1
 
--- what a stop leaves of a commit, as lists of blocks
-pub commit_leaves : (first count : ℕ) (cs : List Change) (kept : List (List ℕ)) (image said : Option (List ℕ)) (outcomes : List ℕ → List ℕ → Type 0) → ((y : List ℕ) → image ≡ Some y → blocks_at first count y ≡ kept) → ((x s : List ℕ) → outcomes x s → IsTold said s) → (x s : List ℕ) → CommitFrom outcomes image first count cs x s → CommitLeaves (told_where image kept) (told_where image (put_all cs kept)) said (redone first count x) s
-commit_leaves first count cs kept None said outcomes blocks said_now x s from = (inl tt, said_now from.1.0 s from.1.1)
-commit_leaves first count cs kept (Some y) said outcomes blocks said_now x s from =
-    (⊎_elim (λ before. inl (before ∙ blocks y refl)) (λ after. inr (after ∙ ap (put_all cs) (blocks y refl))) (from.0 y refl), said_now from.1.0 s from.1.1)
+-- what a step of a commit leaves or reads, as lists of blocks
+either_told : (first count : ℕ) (cs : List Change) (kept : List (List ℕ)) (image : Option (List ℕ)) (x : List ℕ) → ((y : List ℕ) → image ≡ Some y → blocks_at first count y ≡ kept) → ((y : List ℕ) → image ≡ Some y → CommitMakes first count cs y x) → IsTold (told_where image kept) (redone first count x) ⊎ IsTold (told_where image (put_all cs kept)) (redone first count x)
+either_told first count cs kept None x blocks makes = inl tt
+either_told first count cs kept (Some y) x blocks makes = ⊎_elim (λ before. inl (before ∙ blocks y refl)) (λ after. inr (after ∙ ap (put_all cs) (blocks y refl))) (makes y refl).either
 
-pub commit_stops : (first count : ℕ) (cs : List Change) (kept : List (List ℕ)) (image said : Option (List ℕ)) (a b : ℕ) (past at : ℕ → List ℕ → List ℕ → Type 0) → Stands first count kept image (past a) → ((x s : List ℕ) → past a x s → IsTold said s) → LeavesOnly a b past at (CommitFrom (past a) image first count cs)
+pub commit_stops : (first count : ℕ) (cs : List Change) (kept : List (List ℕ)) (image said : Option (List ℕ)) {a b : ℕ} {past at : ℕ → List ℕ → List ℕ → Type 0} → Stands first count kept image (past a) → ((x s : List ℕ) → past a x s → IsTold said s) → LeavesOnly a b past at (MadeFrom (CommitMakes first count cs) (past a) image)
     → LeavesOnly a b (Read (redone first count) past) (Read (redone first count) at) (CommitLeaves (told_where image kept) (told_where image (put_all cs kept)) said)
-commit_stops first count cs kept image said a b past at stands said_now only =
-    leaves-read (redone first count) (CommitLeaves (told_where image kept) (told_where image (put_all cs kept)) said) only (commit_leaves first count cs kept image said (past a) stands.blocks said_now)
+commit_stops first count cs kept image said stands said_now only =
+    leaves-read (redone first count) (CommitLeaves (told_where image kept) (told_where image (put_all cs kept)) said) only (λ x s from. (either_told first count cs kept image x stands.blocks from.0, said_now from.1.0 s from.1.1))
 
-none_told : (z : List ℕ) → None ≡ Some z → ⊥
-none_told z is = cc
+pub commit_standing : (first count : ℕ) (cs : List Change) (kept : List (List ℕ)) (old new : Option (List ℕ)) {outcomes : List ℕ → List ℕ → Type 0} → Stands first count kept old outcomes → Became (CommitMakes first count cs) old new → (blocks : List (List ℕ)) → option_map (redone first count) new ≡ Some blocks → IsTold (told_where old kept) blocks ⊎ IsTold (told_where old (put_all cs kept)) blocks
+commit_standing first count cs kept None new stands became blocks is = absurd (none-some blocks (sym (ap (option_map (redone first count)) (became.untold refl)) ∙ is))
+commit_standing first count cs kept (Some y) new stands became blocks is =
+    let t = became.told y refl in
+    let blocks_is : redone first count t.0 ≡ blocks = same_Some (redone first count t.0) blocks (sym (ap (option_map (redone first count)) t.1) ∙ is) in
+    subst (λ (l : List (List ℕ)). IsTold (Some kept) l ⊎ IsTold (Some (put_all cs kept)) l) blocks_is (⊎_elim (λ before. inl (before ∙ stands.blocks y refl)) (λ after. inr (after ∙ ap (put_all cs) (stands.blocks y refl))) t.2.either)
 
-some_is : (x y : List ℕ) → Some x ≡ Some y → x ≡ y
-some_is x y is = cc
+pub same_standing : (list committed standing : Option (List (List ℕ))) → standing ≡ committed → (blocks : List (List ℕ)) → standing ≡ Some blocks → IsTold committed blocks ⊎ IsTold list blocks
+same_standing list committed standing is blocks told = inl (subst (λ (l : Option (List (List ℕ))). IsTold l blocks) (sym told ∙ is) refl)
+
+pub say_steady : (first count : ℕ) (kept : List (List ℕ)) (old new : Option (List ℕ)) (text : List ℕ) {a b : ℕ} {past at : ℕ → List ℕ → List ℕ → Type 0} → Stands first count kept old (past a) → new ≡ old → LeavesOnly a b past at (SaidFrom (past a) text) → IsSteady first first count count old new a b past at
+say_steady first count kept old new text stands is only = record {
+  place = refl;
+  count = refl;
+  reads = became-waits (λ y told. keeps_refl first count y) is;
+  stops = leaves-weaken only (λ x s from y told. subst (λ (z : List ℕ). KeepsFront first count y z) (sym (stands.exact.only y told x from.0 from.3)) (keeps_refl first count y));
+}
+
+-- the site is as it was
+pub no_call : {old new : StoreView} → new.moment ≡ old.moment → LeavesSame old new → new.disk_faults ≡ old.disk_faults → NoCall old new
+no_call moment stops faults = record { moment = moment; stops = stops; disk_faults = faults }
 
 -- after a commit the journal stands on the changed blocks
-pub commit_stands : (first count : ℕ) (cs : List Change) (kept : List (List ℕ)) (old new : Option (List ℕ)) (before outcomes : List ℕ → List ℕ → Type 0) → Stands first count kept old before → SameTold old new → HasChanges first count cs old new → IsExact new outcomes → Stands first count (put_all cs kept) new outcomes
+pub commit_stands : (first count : ℕ) (cs : List Change) {R : List ℕ → List ℕ → Type 0} (kept : List (List ℕ)) (old new : Option (List ℕ)) (before outcomes : List ℕ → List ℕ → Type 0) → Stands first count kept old before → Became R old new → HasChanges first count cs old new → IsExact new outcomes → Stands first count (put_all cs kept) new outcomes
 commit_stands first count cs kept None new before outcomes stands same changes exact =
     let none : new ≡ None = same.untold refl in
-    record { settled = λ z is. absurd (none_told z (sym none ∙ is)); blocks = λ z is. absurd (none_told z (sym none ∙ is)); exact = exact }
+    record { settled = λ z is. absurd (none-some z (sym none ∙ is)); blocks = λ z is. absurd (none-some z (sym none ∙ is)); exact = exact }
 commit_stands first count cs kept (Some y) new before outcomes stands same changes exact =
     let h = changes.has y refl in
     record {
-      settled = λ z is. subst (λ (z : List ℕ). IsSettled first count z) (some_is h.0 z (sym h.1 ∙ is)) h.2;
-      blocks = λ z is. subst (λ (z : List ℕ). blocks_at first count z ≡ put_all cs kept) (some_is h.0 z (sym h.1 ∙ is)) (h.3 ∙ ap (put_all cs) (stands.blocks y refl));
+      settled = λ z is. subst (λ (z : List ℕ). IsSettled first count z) (same_Some h.0 z (sym h.1 ∙ is)) h.2;
+      blocks = λ z is. subst (λ (z : List ℕ). blocks_at first count z ≡ put_all cs kept) (same_Some h.0 z (sym h.1 ∙ is)) (h.3 ∙ ap (put_all cs) (stands.blocks y refl));
       exact = exact;
     }
-
-number_is : (x y : ℕ) → Some x ≡ Some y → x ≡ y
-number_is x y is = cc
-
-none_is : (n : ℕ) → None ≡ Some n → ⊥
-none_is n is = cc
 
 -- the room that a store tells
 room_within : (needed : ℕ) (r : ℕ × ℕ) (new : Option (ℕ × ℕ)) (before now : ℕ) (P : ℕ → Type 0) (Q : ℕ × ℕ → Type 0) → HasRoom (Some r) new before now Q → ((room : ℕ × ℕ) → needed ≤ room.0 → P room.1 → Q room) → nat_le needed r.0 ≡ true → HasSayRoom (say_room needed (Some r)) (say_room needed new) before now P
 room_within needed r new before now P Q room so enough = record {
   stays = λ n is.
       let t = room.stays r refl in
-      let n_is : r.1 ≡ n = number_is r.1 n (sym (ap (λ (b : Bool). cond b (Some r.1) None) enough) ∙ is) in
+      let n_is : r.1 ≡ n = same_Some r.1 n (sym (ap (λ (b : Bool). cond b (Some r.1) None) enough) ∙ is) in
       (t.0.1, ap (say_room needed) t.1 ∙ ap (λ (b : Bool). cond b (Some t.0.1) None) (le-leb needed t.0.0 (omega (arith, leb-true needed r.0 enough, t.2))), omega (arith, n_is, t.3));
   quiet = λ n is fits.
-      let n_is : r.1 ≡ n = number_is r.1 n (sym (ap (λ (b : Bool). cond b (Some r.1) None) enough) ∙ is) in
+      let n_is : r.1 ≡ n = same_Some r.1 n (sym (ap (λ (b : Bool). cond b (Some r.1) None) enough) ∙ is) in
       room.quiet r refl (so r (leb-true needed r.0 enough) (subst P (sym n_is) fits));
 }
 
 room_short : (needed : ℕ) (r : ℕ × ℕ) (new : Option (ℕ × ℕ)) (before now : ℕ) (P : ℕ → Type 0) → nat_le needed r.0 ≡ false → HasSayRoom (say_room needed (Some r)) (say_room needed new) before now P
 room_short needed r new before now P short = record {
-  stays = λ n is. absurd (none_is n (sym (ap (λ (b : Bool). cond b (Some r.1) None) short) ∙ is));
-  quiet = λ n is fits. absurd (none_is n (sym (ap (λ (b : Bool). cond b (Some r.1) None) short) ∙ is));
+  stays = λ n is. absurd (none-some n (sym (ap (λ (b : Bool). cond b (Some r.1) None) short) ∙ is));
+  quiet = λ n is fits. absurd (none-some n (sym (ap (λ (b : Bool). cond b (Some r.1) None) short) ∙ is));
 }
 
 pub say_room-by : (needed : ℕ) (old new : Option (ℕ × ℕ)) (before now : ℕ) (P : ℕ → Type 0) (Q : ℕ × ℕ → Type 0) → HasRoom old new before now Q → ((room : ℕ × ℕ) → needed ≤ room.0 → P room.1 → Q room) → HasSayRoom (say_room needed old) (say_room needed new) before now P
-say_room-by needed None new before now P Q room so = record { stays = λ n is. absurd (none_is n is); quiet = λ n is fits. absurd (none_is n is) }
+say_room-by needed None new before now P Q room so = record { stays = λ n is. absurd (none-some n is); quiet = λ n is fits. absurd (none-some n is) }
 say_room-by needed (Some r) new before now P Q room so = ⊎_elim (λ enough. room_within needed r new before now P Q room so enough) (λ short. room_short needed r new before now P short) (cases_Bool (nat_le needed r.0))
 
 pub say_room-from : (needed : ℕ) (old new : Option (ℕ × ℕ)) (before now : ℕ) (P : ℕ → Type 0) → HasRoom old new before now (λ room. needed ≤ room.0) → HasSayRoom (say_room needed old) (say_room needed new) before now P
@@ -150,22 +133,10 @@ pub none_rise : (count : ℕ) (cs : List Change) → cs ≡ [] → are_changes 0
 unfolding are_changes
 none_rise count cs is = ap (are_changes 0 count) is
 
-pub none_list : (image : Option (List ℕ)) (cs : List Change) (kept : List (List ℕ)) → cs ≡ [] → told_where image (put_all cs kept) ≡ told_where image kept
-none_list image cs kept is = ap (told_where image) (ap (λ (l : List Change). put_all l kept) is ∙ put_all-none kept)
-
 pub few_changes : (count : ℕ) (cs : List Change) → are_changes 0 count cs ≡ true → length cs ≤ count
 few_changes count cs rise = omega (arith, are_few 0 count cs (omega arith) rise)
 
--- the same of changes that are equal to those that are staged
-pub commit_stops-of : (first count : ℕ) (cs staged : List Change) (kept : List (List ℕ)) (image said : Option (List ℕ)) (a b : ℕ) (past at : ℕ → List ℕ → List ℕ → Type 0) → cs ≡ staged → Stands first count kept image (past a) → ((x s : List ℕ) → past a x s → IsTold said s) → LeavesOnly a b past at (CommitFrom (past a) image first count cs)
-    → LeavesOnly a b (Read (redone first count) past) (Read (redone first count) at) (CommitLeaves (told_where image kept) (told_where image (put_all staged kept)) said)
-commit_stops-of first count cs staged kept image said a b past at is stands said_now only =
-    commit_stops first count staged kept image said a b past at stands said_now (subst (λ (l : List Change). LeavesOnly a b past at (CommitFrom (past a) image first count l)) is only)
-
-pub commit_stands-of : {E : Type 0} (result : Result (Unit {0}) E) (first count : ℕ) (cs staged : List Change) (kept blocks : List (List ℕ)) (old new : Option (List ℕ)) (before outcomes : List ℕ → List ℕ → Type 0) → is_err result ≡ false → cs ≡ staged → blocks ≡ put_all staged kept → Stands first count kept old before → SameTold old new → OnOk result (HasChanges first count cs old new) → OnOk result (IsExact new outcomes) → Stands first count blocks new outcomes
-commit_stands-of (Err e) first count cs staged kept blocks old new before outcomes went is made stands same changes exact = absurd (true≢false went)
-commit_stands-of (Ok x) first count cs staged kept blocks old new before outcomes went is made stands same changes exact =
-    subst (λ (l : List (List ℕ)). Stands first count l new outcomes) (sym made) (commit_stands first count staged kept old new before outcomes stands same (subst (λ (l : List Change). HasChanges first count l old new) is changes) exact)
-
-pub made_is : (cs staged : List Change) (kept blocks : List (List ℕ)) → cs ≡ staged → blocks ≡ put_all cs kept → blocks ≡ put_all staged kept
-made_is cs staged kept blocks is made = made ∙ ap (λ (l : List Change). put_all l kept) is
+pub commit_stands-of : {E : Type 0} (result : Result (Unit {0}) E) (first count : ℕ) (cs : List Change) {R : List ℕ → List ℕ → Type 0} (kept blocks : List (List ℕ)) (old new : Option (List ℕ)) (before outcomes : List ℕ → List ℕ → Type 0) → is_err result ≡ false → blocks ≡ put_all cs kept → Stands first count kept old before → Became R old new → OnOk result (HasChanges first count cs old new) → OnOk result (IsExact new outcomes) → Stands first count blocks new outcomes
+commit_stands-of (Err e) first count cs kept blocks old new before outcomes went made stands same changes exact = absurd (true≢false went)
+commit_stands-of (Ok x) first count cs kept blocks old new before outcomes went made stands same changes exact =
+    subst (λ (l : List (List ℕ)). Stands first count l new outcomes) (sym made) (commit_stands first count cs kept old new before outcomes stands same changes exact)

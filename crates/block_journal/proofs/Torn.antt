@@ -1,19 +1,25 @@
 -- What a stop leaves in each step of a commit: the blocks before it, or the blocks with the changes made.
-use Rattle.std.proofs.Common.{◌≡◌, ◌⊎◌, inl, inr, ⊎_elim, ℕ, ◌+◌, ◌*◌, ◌^◌, ◌<◌, ◌≤◌, false, ◌==◌, List, [], ◌∷◌, ◌++◌, length, get_or, refl, sym, ◌∙◌, ap, arith, length-append}
+use Rattle.std.proofs.Common.{◌≡◌, ◌⊎◌, inl, inr, ⊎_elim, ℕ, ◌+◌, ◌*◌, ◌^◌, ◌<◌, ◌≤◌, true, false, ◌==◌, List, [], ◌∷◌, ◌++◌, length, get_or, refl, sym, ◌∙◌, ap, arith, length-append}
 use Rattle.std.specs.List.{flat_map}
 use Rattle.std.specs.Int.{w32, from_be_bytes, to_be_bytes}
 use Rattle.std.proofs.lemmas.List.{get_or_append_left, get_or-append-add}
 use Rattle.std.proofs.lemmas.Nat.{from_be_bytes-to_be_bytes_4}
 use Rattle.std.proofs.lemmas.Bool.{cases_Bool}
 use Rattle.hal_base.specs.Disk.{written, Torn}
-use Rattle.block_journal.specs.declared.change.Change.{Change}
-use Rattle.block_journal.specs.Redo.{number_at, blocks_at, changes_at, put_all, put_image, is_open, journal_of, redone, change_bytes, body_bytes}
+use Rattle.block_journal.specs.Change.{Change}
+use Rattle.block_journal.specs.Redo.{number_at, blocks_at, changes_at, put_all, is_open, journal_of, redone, change_bytes, body_bytes, are_changes}
 use Rattle.block_journal.proofs.Images.{SameOutside, bytes_at-is, torn_outside, written_inside, written_outside, length-written, length-written_le}
-use Rattle.block_journal.specs.Placing.{AreWhole, SameBut}
-use Rattle.block_journal.specs.Commit.{IsSettled}
-use Rattle.block_journal.specs.Redoing.{IsToRedo}
-use Rattle.block_journal.proofs.Changes.{blocks_at-ext, changes_at-is}
-use Rattle.block_journal.proofs.Redoing.{redone_closed, redone_open, redone_changes, placing_keeps, closing_keeps, redo_settled}
+use Rattle.block_journal.specs.Body.{HasBody}
+use Rattle.block_journal.specs.Placing.{AreWhole}
+use Rattle.block_journal.specs.Commit.{CommitMakes}
+use Rattle.block_journal.specs.Front.{KeepsFront}
+use Rattle.block_journal.specs.Redoing.{IsToRedo, RedoMakes}
+use Rattle.block_journal.proofs.Changes.{blocks_at-ext, changes_at-is, length-body}
+use Rattle.block_journal.proofs.Fronts.{body_front, gate_front}
+use Rattle.block_journal.proofs.Redoing.{redone_open, redone_changes}
+use Rattle.block_journal.proofs.Rising.{are_few}
+use Rattle.hal_base.proofs.ImageLemmas.{torn_whole}
+use Rattle.block_journal.specs.JournalLaw.{are_whole, keeps_then, redone_closed}
 
 gate_same : (x y : List ℕ) → get_or x 4096 0 ≡ get_or y 4096 0 → is_open x ≡ is_open y
 gate_same x y same = ap (λ (b : ℕ). b == 1) same
@@ -21,25 +27,13 @@ gate_same x y same = ap (λ (b : ℕ). b == 1) same
 -- what the commit begins with: a whole image with a closed gate, and changes that fit it
 pub record Begins (first count : ℕ) (cs : List Change) (x : List ℕ) : Type 0 where
   pub behind : 8192 ≤ first
-  pub whole : AreWhole count cs
-  pub few : length cs ≤ count
+  pub rise : are_changes 0 count cs ≡ true
+  pub some : 1 ≤ length cs
   pub small : count < 2 ^ 32
   pub long : first + 4096 * count ≤ length x
   pub closed : is_open x ≡ false
 
 module _ (first count : ℕ) (cs : List Change) (x : List ℕ) (b : Begins first count cs x) where
-  old : List (List ℕ)
-  old = blocks_at first count x
-
-  new : List (List ℕ)
-  new = put_all cs (blocks_at first count x)
-
-  start : ℕ
-  start = first + 4096 * count
-
-  flat : List ℕ
-  flat = flat_map change_bytes cs
-
   -- the body is being written
   pub body_torn : (n : ℕ) (y : List ℕ) → Torn (first + 4096 * count) n x y → redone first count y ≡ blocks_at first count x
   body_torn n y torn =
@@ -57,39 +51,55 @@ module _ (first count : ℕ) (cs : List Change) (x : List ℕ) (b : Begins first
   pub long_staged : first + 4096 * count ≤ length (written (first + 4096 * count) (body_bytes cs) x)
   long_staged = omega (arith, b.long, (length-written_le (first + 4096 * count) (body_bytes cs) x b.long).0)
 
+  whole : AreWhole count cs
+  whole = are_whole 0 count cs b.rise
+
+  few : length cs ≤ count
+  few = omega (arith, are_few 0 count cs (omega arith) b.rise)
+
   -- an image that has what is staged, from the body on, has the changes in its journal
-  pub journal_is : (y : List ℕ) → ((i : ℕ) → first + 4096 * count ≤ i → get_or y i 0 ≡ get_or (written (first + 4096 * count) (body_bytes cs) x) i 0) → journal_of first count y ≡ cs
-  unfolding number_at
-  journal_is y same = ap (λ (n : ℕ). changes_at (first + 4096 * count + 8) n y) count_is ∙ changes_at-is (first + 4096 * count + 8) count cs y b.whole (omega (arith, b.small)) (record { byte = in_flat })
-    where
-      head : List ℕ
-      head = to_be_bytes w32 (length cs) ++ to_be_bytes w32 1
+  module _ (y : List ℕ) (same : (i : ℕ) → first + 4096 * count ≤ i → get_or y i 0 ≡ get_or (written (first + 4096 * count) (body_bytes cs) x) i 0) where
+    body_length : length (body_bytes cs) ≡ 8 + length (flat_map change_bytes cs)
+    body_length = length-append (to_be_bytes w32 (length cs) ++ to_be_bytes w32 1) (flat_map change_bytes cs)
 
-      eight : length (to_be_bytes w32 (length cs) ++ to_be_bytes w32 1) ≡ 8
-      eight = refl
+    in_body : (i : ℕ) → i < length (body_bytes cs) → get_or y (first + 4096 * count + i) 0 ≡ get_or (body_bytes cs) i 0
+    in_body i lt = same (first + 4096 * count + i) (omega arith) ∙ written_inside (first + 4096 * count) (body_bytes cs) x i b.long lt
 
-      body_length : length (body_bytes cs) ≡ 8 + length (flat_map change_bytes cs)
-      body_length = length-append (to_be_bytes w32 (length cs) ++ to_be_bytes w32 1) (flat_map change_bytes cs)
+    in_head : (i : ℕ) → i < 8 → get_or y (first + 4096 * count + i) 0 ≡ get_or (to_be_bytes w32 (length cs) ++ to_be_bytes w32 1) i 0
+    in_head i lt = in_body i (omega (arith, body_length, lt)) ∙ get_or_append_left (to_be_bytes w32 (length cs) ++ to_be_bytes w32 1) (flat_map change_bytes cs) 0 i (omega (arith, lt))
 
-      in_body : (i : ℕ) → i < length (body_bytes cs) → get_or y (first + 4096 * count + i) 0 ≡ get_or (body_bytes cs) i 0
-      in_body i lt = same (first + 4096 * count + i) (omega arith) ∙ written_inside (first + 4096 * count) (body_bytes cs) x i b.long lt
+    count_is : number_at (first + 4096 * count) y ≡ length cs
+    unfolding number_at
+    count_is =
+        ap (from_be_bytes w32) (bytes_at-is (first + 4096 * count) 4 (to_be_bytes w32 (length cs)) y refl (record { byte = λ i lt. in_head i (omega (arith, lt)) ∙ get_or_append_left (to_be_bytes w32 (length cs)) (to_be_bytes w32 1) 0 i (omega (arith, lt)) }))
+        ∙ from_be_bytes-to_be_bytes_4 (length cs) (omega (arith, few, b.small))
 
-      in_count : (i : ℕ) → i < 4 → get_or y (first + 4096 * count + i) 0 ≡ get_or (to_be_bytes w32 (length cs)) i 0
-      in_count i lt =
-          in_body i (omega (arith, body_length, lt))
-          ∙ get_or_append_left (to_be_bytes w32 (length cs) ++ to_be_bytes w32 1) (flat_map change_bytes cs) 0 i (omega (arith, lt))
-          ∙ get_or_append_left (to_be_bytes w32 (length cs)) (to_be_bytes w32 1) 0 i (omega (arith, lt))
+    one_is : number_at (first + 4096 * count + 4) y ≡ 1
+    unfolding number_at
+    one_is = ap (from_be_bytes w32) (bytes_at-is (first + 4096 * count + 4) 4 (to_be_bytes w32 1) y refl (record {
+      byte = λ i lt.
+          ap (λ (k : ℕ). get_or y k 0) (omega arith) ∙ in_head (4 + i) (omega (arith, lt)) ∙ get_or-append-add (to_be_bytes w32 (length cs)) (to_be_bytes w32 1) i 0;
+    }))
 
-      count_is : number_at (first + 4096 * count) y ≡ length cs
-      count_is =
-          ap (from_be_bytes w32) (bytes_at-is (first + 4096 * count) 4 (to_be_bytes w32 (length cs)) y refl (record { byte = in_count }))
-          ∙ from_be_bytes-to_be_bytes_4 (length cs) (omega (arith, b.few, b.small))
+    in_flat : (i : ℕ) → i < length (flat_map change_bytes cs) → get_or y (first + 4096 * count + 8 + i) 0 ≡ get_or (flat_map change_bytes cs) i 0
+    in_flat i lt =
+        ap (λ (k : ℕ). get_or y k 0) (omega arith)
+        ∙ in_body (8 + i) (omega (arith, body_length, lt))
+        ∙ get_or-append-add (to_be_bytes w32 (length cs) ++ to_be_bytes w32 1) (flat_map change_bytes cs) i 0
 
-      in_flat : (i : ℕ) → i < length (flat_map change_bytes cs) → get_or y (first + 4096 * count + 8 + i) 0 ≡ get_or (flat_map change_bytes cs) i 0
-      in_flat i lt =
-          ap (λ (k : ℕ). get_or y k 0) (omega arith)
-          ∙ in_body (8 + i) (omega (arith, body_length, lt))
-          ∙ get_or-append-add (to_be_bytes w32 (length cs) ++ to_be_bytes w32 1) (flat_map change_bytes cs) i 0
+    journal_is : journal_of first count y ≡ cs
+    journal_is = ap (λ (n : ℕ). changes_at (first + 4096 * count + 8) n y) count_is ∙ changes_at-is (first + 4096 * count + 8) count cs y whole (omega (arith, b.small)) (record { byte = in_flat })
+
+    -- and so it has a body
+    has_body : length (written (first + 4096 * count) (body_bytes cs) x) ≤ length y → HasBody first count y
+    has_body le = record {
+      some = omega (arith, count_is, b.some);
+      one = one_is;
+      there = record {
+        long = omega (arith, count_is, le, (length-written_le (first + 4096 * count) (body_bytes cs) x b.long).1, length-body count cs whole);
+        rise = ap (are_changes 0 count) journal_is ∙ b.rise;
+      };
+    }
 
   in_blocks : (i : ℕ) → first ≤ i → i < first + 4096 * count → get_or (written (first + 4096 * count) (body_bytes cs) x) i 0 ≡ get_or x i 0
   in_blocks i low high = staged_outside.byte i (inl high)
@@ -110,6 +120,17 @@ module _ (first count : ℕ) (cs : List Change) (x : List ℕ) (b : Begins first
       blocks_same : blocks_at first count y ≡ blocks_at first count x
       blocks_same = blocks_at-ext first count y x (record { byte = λ i low high. same.byte i (inr (omega (arith, low, b.behind))) ∙ in_blocks i low high })
 
+  gated_body : (y : List ℕ) → Torn 4096 1 (written (first + 4096 * count) (body_bytes cs) x) y → HasBody first count y
+  gated_body y torn =
+      let same = torn_outside 4096 1 (written (first + 4096 * count) (body_bytes cs) x) y staged_long torn in
+      has_body y (λ i le. same.byte i (inr (omega (arith, le, b.behind)))) torn.no_shorter
+
+  staged_front : KeepsFront first count x (written (first + 4096 * count) (body_bytes cs) x)
+  staged_front = body_front first count x (written (first + 4096 * count) (body_bytes cs) x) b.behind b.long (length (body_bytes cs)) b.closed (torn_whole (first + 4096 * count) (body_bytes cs) x)
+
+  gated_front : (y : List ℕ) → Torn 4096 1 (written (first + 4096 * count) (body_bytes cs) x) y → KeepsFront first count x y
+  gated_front y torn = keeps_then staged_front (gate_front first count (written (first + 4096 * count) (body_bytes cs) x) y b.behind long_staged (has_body (written (first + 4096 * count) (body_bytes cs) x) (λ i le. refl) (omega arith)) torn)
+
   -- the image with an open gate
   abbrev opened : List ℕ
   opened = written 4096 (1 ∷ []) (written (first + 4096 * count) (body_bytes cs) x)
@@ -124,26 +145,28 @@ module _ (first count : ℕ) (cs : List Change) (x : List ℕ) (b : Begins first
   opened_blocks = blocks_at-ext first count (written 4096 (1 ∷ []) (written (first + 4096 * count) (body_bytes cs) x)) x (record { byte = λ i low high. opened_outside.byte i (inr (omega (arith, low, b.behind))) ∙ in_blocks i low high })
 
   -- from here on it is an open journal
-  to_redo : IsToRedo first count cs (written 4096 (1 ∷ []) (written (first + 4096 * count) (body_bytes cs) x))
+  pub to_redo : IsToRedo first count cs (written 4096 (1 ∷ []) (written (first + 4096 * count) (body_bytes cs) x))
   to_redo = record {
     long = long_opened;
     opened = ap (λ (b : ℕ). b == 1) (written_inside 4096 (1 ∷ []) (written (first + 4096 * count) (body_bytes cs) x) 0 staged_long (omega arith));
+    body = gated_body (written 4096 (1 ∷ []) (written (first + 4096 * count) (body_bytes cs) x)) (torn_whole 4096 (1 ∷ []) (written (first + 4096 * count) (body_bytes cs) x));
     journal = sym (journal_is (written 4096 (1 ∷ []) (written (first + 4096 * count) (body_bytes cs) x)) (λ i le. opened_outside.byte i (inr (omega (arith, le, b.behind)))));
   }
 
-  redone_opened : redone first count (written 4096 (1 ∷ []) (written (first + 4096 * count) (body_bytes cs) x)) ≡ put_all cs (blocks_at first count x)
-  redone_opened = redone_changes first count cs (written 4096 (1 ∷ []) (written (first + 4096 * count) (body_bytes cs) x)) b.behind b.whole to_redo ∙ ap (λ (l : List (List ℕ)). put_all cs l) opened_blocks
+  pub redone_opened : redone first count (written 4096 (1 ∷ []) (written (first + 4096 * count) (body_bytes cs) x)) ≡ put_all cs (blocks_at first count x)
+  redone_opened = redone_changes first count cs (written 4096 (1 ∷ []) (written (first + 4096 * count) (body_bytes cs) x)) b.behind whole to_redo ∙ ap (λ (l : List (List ℕ)). put_all cs l) opened_blocks
 
-  -- the blocks are being written to their places
-  pub blocks_torn : (y : List ℕ) → SameBut first cs y (written 4096 (1 ∷ []) (written (first + 4096 * count) (body_bytes cs) x)) → redone first count y ≡ put_all cs (blocks_at first count x)
-  blocks_torn y same = placing_keeps first count cs (written 4096 (1 ∷ []) (written (first + 4096 * count) (body_bytes cs) x)) b.behind b.whole to_redo y same ∙ redone_opened
+  opened_front : KeepsFront first count x (written 4096 (1 ∷ []) (written (first + 4096 * count) (body_bytes cs) x))
+  opened_front = gated_front (written 4096 (1 ∷ []) (written (first + 4096 * count) (body_bytes cs) x)) (torn_whole 4096 (1 ∷ []) (written (first + 4096 * count) (body_bytes cs) x))
 
-  -- the gate is being closed
-  pub closing_torn : (y : List ℕ) → Torn 4096 1 (put_image first cs (written 4096 (1 ∷ []) (written (first + 4096 * count) (body_bytes cs) x))) y → redone first count y ≡ put_all cs (blocks_at first count x)
-  closing_torn y torn = closing_keeps first count cs (written 4096 (1 ∷ []) (written (first + 4096 * count) (body_bytes cs) x)) b.behind b.whole to_redo y torn ∙ redone_opened
+  -- what each step makes
+  pub body_makes : (n : ℕ) (y : List ℕ) → Torn (first + 4096 * count) n x y → CommitMakes first count cs x y
+  body_makes n y torn = record { either = inl (body_torn n y torn); front = body_front first count x y b.behind b.long n b.closed torn }
 
-  -- the commit is done
-  pub done : IsSettled first count (written 4096 (0 ∷ []) (put_image first cs (written 4096 (1 ∷ []) (written (first + 4096 * count) (body_bytes cs) x)))) × (blocks_at first count (written 4096 (0 ∷ []) (put_image first cs (written 4096 (1 ∷ []) (written (first + 4096 * count) (body_bytes cs) x)))) ≡ put_all cs (blocks_at first count x))
-  done =
-      let ends = redo_settled first count cs (written 4096 (1 ∷ []) (written (first + 4096 * count) (body_bytes cs) x)) b.behind b.whole to_redo in
-      (ends.0, ends.1 ∙ redone_opened)
+  pub gate_makes : (y : List ℕ) → Torn 4096 1 (written (first + 4096 * count) (body_bytes cs) x) y → CommitMakes first count cs x y
+  gate_makes y torn = record { either = gate_torn y torn; front = gated_front y torn }
+
+  pub redo_makes : (y : List ℕ) → RedoMakes first count (written 4096 (1 ∷ []) (written (first + 4096 * count) (body_bytes cs) x)) y → CommitMakes first count cs x y
+  redo_makes y makes =
+      let m = makes long_opened in
+      record { either = inr (m.0 ∙ redone_opened); front = keeps_then opened_front m.1 }

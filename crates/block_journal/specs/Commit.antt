@@ -1,6 +1,7 @@
 -- What a commit begins and ends with, and what a stop within it may leave.
 use Rattle.std.specs.Prelude.{◌≡◌, ◌⊎◌, ℕ, ◌+◌, ◌*◌, ◌≤◌, max, false, List, length, Option, Some}
-use Rattle.block_journal.specs.declared.change.Change.{Change}
+use Rattle.block_journal.specs.Change.{Change}
+use Rattle.block_journal.specs.Front.{KeepsFront}
 use Rattle.block_journal.specs.Redo.{blocks_at, journal_start, is_open, put_all, redone}
 
 -- the image has all its blocks, and its gate is closed
@@ -8,15 +9,10 @@ pub record IsSettled (first count : ℕ) (image : List ℕ) : Type 0 where
   pub long : journal_start first count ≤ length image
   pub closed : is_open image ≡ false
 
--- the redo is the blocks that were there, or these with the changes
-abbrev pub IsBeforeOrAfter : ℕ → ℕ → List Change → List ℕ → List ℕ → Type 0
-IsBeforeOrAfter first count changes before image =
-    (redone first count image ≡ blocks_at first count before) ⊎ (redone first count image ≡ put_all changes (blocks_at first count before))
-
--- and what was said is what was said before
-abbrev pub CommitFrom : (List ℕ → List ℕ → Type 0) → Option (List ℕ) → ℕ → ℕ → List Change → List ℕ → List ℕ → Type 0
-CommitFrom outcomes told first count changes image said =
-    ((before : List ℕ) → told ≡ Some before → IsBeforeOrAfter first count changes before image) × ((was : List ℕ) × outcomes was said)
+-- in every step of a commit: the redo is the blocks that were there, or these with the changes
+pub record CommitMakes (first count : ℕ) (changes : List Change) (before image : List ℕ) : Type 0 where
+  pub either : (redone first count image ≡ blocks_at first count before) ⊎ (redone first count image ≡ put_all changes (blocks_at first count before))
+  pub front : KeepsFront first count before image
 
 -- the blocks are those that were there, with the changes
 pub record HasChanges (first count : ℕ) (changes : List Change) (before after : Option (List ℕ)) : Type 0 where

@@ -1,10 +1,14 @@
--- What a run of device calls does to a site, beside what it writes.
+-- What a run of device calls makes of an image, where R is what it makes of each image that it finds.
 use Rattle.std.specs.Prelude.{◌≡◌, ℕ, List, Option, None, Some}
 
--- what was told stays told, and what wasn't stays untold
-pub record SameTold (old new : Option (List ℕ)) : Type 0 where
-  pub told : (image : List ℕ) → old ≡ Some image → (after : List ℕ) × (new ≡ Some after)
+-- what was told stays told and is now what R makes of it; what wasn't told stays untold
+pub record Became (R : List ℕ → List ℕ → Type 0) (old new : Option (List ℕ)) : Type 0 where
+  pub told : (image : List ℕ) → old ≡ Some image → (after : List ℕ) × (new ≡ Some after) × R image after
   pub untold : old ≡ None → new ≡ None
+
+-- what may be left: what R makes of the image that was told; and what was said before
+abbrev pub MadeFrom : (List ℕ → List ℕ → Type 0) → (List ℕ → List ℕ → Type 0) → Option (List ℕ) → List ℕ → List ℕ → Type 0
+MadeFrom R outcomes told image said = ((old : List ℕ) → told ≡ Some old → R old image) × ((was : List ℕ) × outcomes was said)
 
 -- what a stop now leaves is the image that is told
 pub record IsExact (image : Option (List ℕ)) (outcomes : List ℕ → List ℕ → Type 0) : Type 0 where

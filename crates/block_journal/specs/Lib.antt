@@ -1,10 +1,13 @@
 pub mod Body
+pub mod Change
 pub mod Commit
 pub mod Device
+pub mod Front
+pub mod JournalLaw
 pub mod Opening
 pub mod Placing
 pub mod Reads
 pub mod Redo
 pub mod Redoing
-pub mod Staged
 pub mod Stands
+pub mod Steady

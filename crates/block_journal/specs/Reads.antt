@@ -1,6 +1,6 @@
 -- What the reads of a journal's body give.
 use Rattle.std.specs.Prelude.{◌≡◌, ℕ, ◌+◌, ◌<◌, ◌≤◌, Bool, true, false, List, length, Option, None, Some}
-use Rattle.block_journal.specs.declared.change.Change.{Change}
+use Rattle.block_journal.specs.Change.{Change}
 use Rattle.block_journal.specs.Body.{HasBody}
 use Rattle.block_journal.specs.Redo.{bytes_at, number_at, journal_start, journal_of}
 
@@ -14,7 +14,7 @@ pub record ReadsNumber (at : ℕ) (told : Option (List ℕ)) (number : Option �
   pub short : number ≡ None → (image : List ℕ) → told ≡ Some image → length image < at + 4
 
 pub record ReadsChange (at : ℕ) (told : Option (List ℕ)) (change : Option Change) : Type 0 where
-  pub is : (c : Change) → change ≡ Some c → (image : List ℕ) → told ≡ Some image → (at + 4100 ≤ length image) × (c.number ≡ number_at at image) × (c.content ≡ bytes_at (at + 4) 4096 image)
+  pub is : (c : Change) → change ≡ Some c → (image : List ℕ) → told ≡ Some image → (at + 4100 ≤ length image) × (c.0 ≡ number_at at image) × (c.1 ≡ bytes_at (at + 4) 4096 image)
   pub short : change ≡ None → (image : List ℕ) → told ≡ Some image → length image < at + 4100
 
 -- how many changes the body has, by its first eight bytes

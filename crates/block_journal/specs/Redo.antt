@@ -3,7 +3,7 @@ use Rattle.std.specs.Prelude.{ℕ, zero, suc, ◌+◌, ◌*◌, Bool, true, ◌&
 use Rattle.std.specs.Int.{w32, from_be_bytes, to_be_bytes}
 use Rattle.std.specs.List.{flat_map}
 use Rattle.hal_base.specs.Disk.{written}
-use Rattle.block_journal.specs.declared.change.Change.{Change}
+use Rattle.block_journal.specs.Change.{Change}
 
 -- n bytes of an image from `at` on; bytes past its end are zeros
 unfoldable pub bytes_at : ℕ → ℕ → List ℕ → List ℕ
@@ -21,20 +21,27 @@ blocks_at at (suc n) image = bytes_at at 4096 image ∷ blocks_at (at + 4096) n 
 -- so many changes of a journal's body, one after another: a block's number, and its bytes
 unfoldable pub changes_at : ℕ → ℕ → List ℕ → List Change
 changes_at at zero image = []
-changes_at at (suc n) image = record { number = number_at at image; content = bytes_at (at + 4) 4096 image } ∷ changes_at (at + 4100) n image
+changes_at at (suc n) image = (number_at at image, bytes_at (at + 4) 4096 image) ∷ changes_at (at + 4100) n image
 
 -- where the journal's body begins: behind the last block
 abbrev pub journal_start : ℕ → ℕ → ℕ
 journal_start first count = first + 4096 * count
 
+-- where the gate is, and where it ends
+abbrev pub gate : ℕ
+gate = 4096
+
+abbrev pub gate_end : ℕ
+gate_end = 4097
+
 -- the gate is open
 abbrev pub is_open : List ℕ → Bool
-is_open image = slice_index image 4096 == 1
+is_open image = slice_index image gate == 1
 
 -- the blocks with the changes made, one after another
 unfoldable pub put_all : List Change → List (List ℕ) → List (List ℕ)
 put_all [] blocks = blocks
-put_all (change ∷ changes) blocks = put_all changes (slice_set blocks change.number change.content)
+put_all (change ∷ changes) blocks = put_all changes (slice_set blocks change.0 change.1)
 
 -- the changes of the journal's body
 abbrev pub journal_of : ℕ → ℕ → List ℕ → List Change
@@ -47,11 +54,11 @@ redone first count image = if is_open image then put_all (journal_of first count
 -- the image with the changes' blocks written to their places, one after another
 unfoldable pub put_image : ℕ → List Change → List ℕ → List ℕ
 put_image first [] image = image
-put_image first (change ∷ changes) image = put_image first changes (written (first + 4096 * change.number) change.content image)
+put_image first (change ∷ changes) image = put_image first changes (written (first + 4096 * change.0) change.1 image)
 
 -- the bytes of one change
 abbrev pub change_bytes : Change → List ℕ
-change_bytes change = to_be_bytes w32 change.number ++ change.content
+change_bytes change = to_be_bytes w32 change.0 ++ change.1
 
 -- the bytes of a journal's body
 abbrev pub body_bytes : List Change → List ℕ
@@ -60,4 +67,4 @@ body_bytes changes = to_be_bytes w32 (length changes) ++ to_be_bytes w32 1 ++ fl
 -- the numbers rise from `from` on and are below the count of blocks, and each has a whole block
 unfoldable pub are_changes : ℕ → ℕ → List Change → Bool
 are_changes from count [] = true
-are_changes from count (change ∷ changes) = nat_le from change.number && nat_lt change.number count && length change.content == 4096 && are_changes (change.number + 1) count changes
+are_changes from count (change ∷ changes) = nat_le from change.0 && nat_lt change.0 count && length change.1 == 4096 && are_changes (change.0 + 1) count changes

@@ -1,14 +1,17 @@
 -- What an opening makes of an image, and what a stop within it may leave.
-use Rattle.std.specs.Prelude.{◌≡◌, ◌⊎◌, ℕ, ◌≤◌, true, List, length, Option, Some}
-use Rattle.block_journal.specs.declared.change.Change.{Change}
+use Rattle.std.specs.Prelude.{◌≡◌, ℕ, ◌<◌, ◌≤◌, true, List, length, Option, Some}
+use Rattle.block_journal.specs.Change.{Change}
 use Rattle.block_journal.specs.Body.{HasBody}
 use Rattle.block_journal.specs.Commit.{IsSettled}
+use Rattle.block_journal.specs.Device.{MadeFrom}
+use Rattle.block_journal.specs.Front.{KeepsFront}
 use Rattle.block_journal.specs.Redo.{blocks_at, is_open, journal_of, journal_start, redone}
 
 -- an image with an open journal of these changes
 pub record IsToRedo (first count : ℕ) (changes : List Change) (image : List ℕ) : Type 0 where
   pub long : journal_start first count ≤ length image
   pub opened : is_open image ≡ true
+  pub body : HasBody first count image
   pub journal : changes ≡ journal_of first count image
 
 -- the image that is told now has as its blocks what the one before stood for
@@ -19,18 +22,20 @@ pub record IsRedone (first count : ℕ) (before after : Option (List ℕ)) : Typ
 pub record SameRedo (first count : ℕ) (before after : Option (List ℕ)) : Type 0 where
   pub has : (old : List ℕ) → before ≡ Some old → (new : List ℕ) × (after ≡ Some new) × (redone first count new ≡ redone first count old)
 
--- It stands for the blocks that the image that was told stood for, where that one had all its blocks. A shorter
--- one is filled up first, and a stop in that may leave any bytes in the part that is filled.
-abbrev pub KeepsRedo : ℕ → ℕ → Option (List ℕ) → List ℕ → Type 0
-KeepsRedo first count told image = (old : List ℕ) → told ≡ Some old → journal_start first count ≤ length old → redone first count image ≡ redone first count old
+-- In every step of an opening: an image that had all its blocks stands for the same blocks. A shorter one is filled
+-- up, and a stop in that may leave any bytes in the part that is filled.
+abbrev pub RedoMakes : ℕ → ℕ → List ℕ → List ℕ → Type 0
+RedoMakes first count old image = journal_start first count ≤ length old → (redone first count image ≡ redone first count old) × KeepsFront first count old image
 
--- what may be left of an opening: what might have been left before it, or the same redo; and what was said
-abbrev pub OpeningLeaves : (List ℕ → List ℕ → Type 0) → Option (List ℕ) → ℕ → ℕ → List ℕ → List ℕ → Type 0
-OpeningLeaves outcomes told first count image said = (outcomes image said ⊎ KeepsRedo first count told image) × ((was : List ℕ) × outcomes was said)
-
--- after a redo has begun, only the same redo
-abbrev pub RedoLeaves : (List ℕ → List ℕ → Type 0) → Option (List ℕ) → ℕ → ℕ → List ℕ → List ℕ → Type 0
-RedoLeaves outcomes told first count image said = KeepsRedo first count told image × ((was : List ℕ) × outcomes was said)
+-- The first sync of an opening returned at this moment, or never where the moment lies behind the opening's end. Until
+-- then a stop leaves what one at the start might have left, and from then on what an opening makes of the image that
+-- was told.
+pub record OpensAt (first count : ℕ) (told : Option (List ℕ)) (before now : ℕ) (past at : ℕ → List ℕ → List ℕ → Type 0) (synced : ℕ) : Type 0 where
+  pub later : before ≤ now
+  pub begun : before ≤ synced
+  pub same : (m : ℕ) (image said : List ℕ) → m ≤ before → at m image said → past m image said
+  pub until : (m : ℕ) (image said : List ℕ) → before < m → m ≤ now → m < synced → at m image said → past before image said
+  pub since : (m : ℕ) (image said : List ℕ) → synced ≤ m → m ≤ now → at m image said → MadeFrom (RedoMakes first count) (past before) told image said
 
 -- the image that is told has an open gate, and no body behind its blocks
 abbrev pub IsDamaged : ℕ → ℕ → Option (List ℕ) → Type 0

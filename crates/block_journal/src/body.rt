@@ -7,11 +7,12 @@ ghost use Rattle.block_journal.specs.Body.{AreThere, HasBody};
 ghost use Rattle.block_journal.specs.Reads.{ReadsWhole, ReadsNumber, ReadsChange, ReadsSize, ReadsBody, LacksBody};
 ghost use Rattle.block_journal.specs.Redo.{changes_at, are_changes};
 
-use crate::Change;
+use crate::change::Changes;
 use crate::device::place_of;
 use crate::fault::LoadFault;
 use hal_base::{BLOCK, Failed, Site};
 use std::alloc::Global;
+use std::collections::BTreeMap;
 
 /// Fills the buffer with the bytes that stand at `at`, and answers whether all of it stands there.
 fn read_whole<T: Site>(site: &mut T, at: u64, bytes: &mut [u8]) -> Result<bool, Failed>
@@ -49,11 +50,11 @@ fn read_number<T: Site>(site: &mut T, at: u64) -> Result<Option<u32>, Failed>
     }
 }
 
-/// The change that stands at `at`, if it stands there in full.
-fn read_change<T: Site>(site: &mut T, at: u64) -> Result<Option<Change>, Failed>
+/// The number and the block of the change that stands at `at`, if it stands there in full.
+fn read_change<T: Site>(site: &mut T, at: u64) -> Result<Option<(u32, [u8; BLOCK])>, Failed>
     requires { at + 4100 ≤ 2 ^ 63 - 1 }
     ensures change { IfOk result (λ change. ReadsChange at (T.image site.old) change) }
-    ensures whole { IfOk result (λ change. IfSome change (λ change. length change.content ≡ BLOCK)) }
+    ensures whole { IfOk result (λ change. IfSome change (λ change. length change.1 ≡ BLOCK)) }
     ensures image { T.image site.new ≡ T.image site.old }
     ensures stops { LeavesOnly (T.moment site.old) (T.moment site.new) (T.left_at site.old) (T.left_at site.new) (T.left_at site.old (T.moment site.old)) }
     ensures cause { HasCause (T.disk_faults site.old) (T.disk_faults site.new) result }
@@ -64,9 +65,9 @@ fn read_change<T: Site>(site: &mut T, at: u64) -> Result<Option<Change>, Failed>
     let Some(number) = read_number(site, at)? else {
         return Ok(None);
     };
-    let mut content = [0u8; BLOCK];
-    if read_whole(site, at + 4, &mut content)? {
-        Ok(Some(Change { number, content }))
+    let mut block = [0u8; BLOCK];
+    if read_whole(site, at + 4, &mut block)? {
+        Ok(Some((number, block)))
     } else {
         Ok(None)
     }
@@ -104,11 +105,11 @@ fn read_changes<T: Site>(
     at: u64,
     count: u32,
     n: u32,
-) -> Result<Vec<Change>, LoadFault>
+) -> Result<Changes, LoadFault>
     requires near { at ≤ 2 ^ 46 }
     requires within { (image : List ℕ) → T.image site.old ≡ Some image → at ≤ length image }
-    ensures changes { IfOk result (λ changes. (image : List ℕ) → T.image site.old ≡ Some image → AreThere at n count image × (changes.items ≡ changes_at at n image)) }
-    ensures rise { IfOk result (λ changes. IsTrue (are_changes 0 count changes.items)) }
+    ensures changes { IfOk result (λ changes. (image : List ℕ) → T.image site.old ≡ Some image → AreThere at n count image × (changes.entries ≡ changes_at at n image)) }
+    ensures rise { IfOk result (λ changes. IsTrue (are_changes 0 count changes.entries)) }
     ensures damaged { IsErrOf result LoadFault.Damaged → (image : List ℕ) → T.image site.old ≡ Some image → AreThere at n count image → ⊥ }
     ensures image { T.image site.new ≡ T.image site.old }
     ensures stops { LeavesOnly (T.moment site.old) (T.moment site.new) (T.left_at site.old) (T.left_at site.new) (T.left_at site.old (T.moment site.old)) }
@@ -117,17 +118,18 @@ fn read_changes<T: Site>(
     ensures say_faults { T.say_faults site.new ≡ T.say_faults site.old }
     ensures room { HasRoom (T.room site.old) (T.room site.new) (T.disk_faults site.old) (T.disk_faults site.new) (λ room. 0 ≤ room.0) }
 {
-    let mut changes = Vec::new(alloc);
+    let mut changes = BTreeMap::new(alloc);
     let mut least = 0u32;
     for k in 0..n {
         let Some(change) = read_change(site, at + 4100 * u64::from(k))? else {
             return Err(LoadFault::Damaged);
         };
-        if change.number < least || count <= change.number {
+        let (number, block) = change;
+        if number < least || count <= number {
             return Err(LoadFault::Damaged);
         }
-        least = change.number + 1;
-        changes.push(change)?;
+        least = number + 1;
+        changes.insert(number, block)?;
     }
     Ok(changes)
 }
@@ -138,10 +140,10 @@ pub(crate) fn read_body<T: Site>(
     site: &mut T,
     first: u64,
     count: u32,
-) -> Result<Vec<Change>, LoadFault>
+) -> Result<Changes, LoadFault>
     requires near { first ≤ 2 ^ 30 }
-    ensures body { IfOk result (λ changes. ReadsBody first count (T.image site.old) changes.items) }
-    ensures rise { IfOk result (λ changes. IsTrue (are_changes 0 count changes.items)) }
+    ensures body { IfOk result (λ changes. ReadsBody first count (T.image site.old) changes.entries) }
+    ensures rise { IfOk result (λ changes. IsTrue (are_changes 0 count changes.entries)) }
     ensures damaged { IsErrOf result LoadFault.Damaged → LacksBody first count (T.image site.old) }
     ensures image { T.image site.new ≡ T.image site.old }
     ensures stops { LeavesOnly (T.moment site.old) (T.moment site.new) (T.left_at site.old) (T.left_at site.new) (T.left_at site.old (T.moment site.old)) }

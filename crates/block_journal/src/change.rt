@@ -1,8 +1,5 @@
 use hal_base::BLOCK;
+use std::collections::BTreeMap;
 
-/// A block that was staged: its number, and its new bytes.
-#[derive(Clone, Copy, Debug)]
-pub struct Change {
-    pub number: u32,
-    pub content: [u8; BLOCK],
-}
+/// Blocks that were staged, by number.
+pub(crate) type Changes = BTreeMap<u32, [u8; BLOCK]>;

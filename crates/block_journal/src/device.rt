@@ -1,15 +1,15 @@
 // Writes that are on the disk once they have returned.
 ghost use Rattle.std.specs.Prelude.{◌≡◌, ◌+◌, ◌-◌, ◌*◌, ◌^◌, ◌<◌, ◌≤◌, ℕ, List, [], ◌∷◌, length, OnOk};
 ghost use Rattle.std.specs.Option.{option_map};
-ghost use Rattle.hal_base.specs.Disk.{written};
+ghost use Rattle.hal_base.specs.Disk.{written, Torn};
 ghost use Rattle.hal_base.specs.Fault.{HasCause};
 ghost use Rattle.hal_base.specs.Room.{HasRoom};
 ghost use Rattle.hal_base.specs.Stops.{LeavesOnly, TornFrom};
-ghost use Rattle.block_journal.specs.Device.{SameTold, IsExact};
-ghost use Rattle.block_journal.specs.Placing.{AreWhole, PlacedFrom};
+ghost use Rattle.block_journal.specs.Device.{Became, IsExact};
+ghost use Rattle.block_journal.specs.Placing.{AreWhole, Places, PlacedFrom};
 ghost use Rattle.block_journal.specs.Redo.{journal_start, put_image};
 
-use crate::Change;
+use crate::change::Changes;
 use hal_base::{BLOCK, Failed, Site};
 
 /// Writes from `at` on, and syncs.
@@ -17,7 +17,7 @@ pub(crate) fn write_synced<T: Site>(site: &mut T, at: u64, content: &[u8]) -> Re
     requires { at + length content.now ≤ 2 ^ 63 - 1 }
     ensures image { OnOk result (T.image site.new ≡ option_map (written at content.now) (T.image site.old)) }
     ensures exact { OnOk result (IsExact (T.image site.new) (T.left_at site.new (T.moment site.new))) }
-    ensures told { SameTold (T.image site.old) (T.image site.new) }
+    ensures told { Became (Torn at (length content.now)) (T.image site.old) (T.image site.new) }
     ensures said { T.said site.new ≡ T.said site.old }
     ensures stops { LeavesOnly (T.moment site.old) (T.moment site.new) (T.left_at site.old) (T.left_at site.new) (TornFrom (T.left_at site.old (T.moment site.old)) at (length content.now)) }
     ensures cause { HasCause (T.disk_faults site.old) (T.disk_faults site.new) result }
@@ -37,18 +37,24 @@ pub(crate) fn place_of(first: u64, number: u32) -> u64
 }
 
 /// Writes a block to its place.
-fn write_block<T: Site>(site: &mut T, first: u64, count: u32, change: &Change) -> Result<(), Failed>
+fn write_block<T: Site>(
+    site: &mut T,
+    first: u64,
+    count: u32,
+    number: u32,
+    block: &[u8; BLOCK],
+) -> Result<(), Failed>
     requires near { first ≤ 2 ^ 30 }
-    requires whole { AreWhole count (change.now ∷ []) }
-    ensures image { OnOk result (T.image site.new ≡ option_map (written (first + 4096 * change.now.number) change.now.content) (T.image site.old)) }
-    ensures told { SameTold (T.image site.old) (T.image site.new) }
+    requires below { number < count }
+    ensures image { OnOk result (T.image site.new ≡ option_map (written (first + 4096 * number) block.now) (T.image site.old)) }
+    ensures told { Became (Places first count ((number, block.now) ∷ [])) (T.image site.old) (T.image site.new) }
     ensures said { T.said site.new ≡ T.said site.old }
-    ensures stops { LeavesOnly (T.moment site.old) (T.moment site.new) (T.left_at site.old) (T.left_at site.new) (PlacedFrom (T.left_at site.old (T.moment site.old)) first count (change.now ∷ [])) }
+    ensures stops { LeavesOnly (T.moment site.old) (T.moment site.new) (T.left_at site.old) (T.left_at site.new) (PlacedFrom (T.left_at site.old (T.moment site.old)) first count ((number, block.now) ∷ [])) }
     ensures cause { HasCause (T.disk_faults site.old) (T.disk_faults site.new) result }
     ensures say_faults { T.say_faults site.new ≡ T.say_faults site.old }
     ensures room { HasRoom (T.room site.old) (T.room site.new) (T.disk_faults site.old) (T.disk_faults site.new) (λ room. journal_start first count ≤ room.0) }
 {
-    site.write_at(place_of(first, change.number), &change.content)
+    site.write_at(place_of(first, number), block)
 }
 
 /// Writes the blocks to their places in order, and syncs.
@@ -56,21 +62,21 @@ pub(crate) fn write_blocks<T: Site>(
     site: &mut T,
     first: u64,
     count: u32,
-    changes: &[Change],
+    changes: &Changes,
 ) -> Result<(), Failed>
     requires near { first ≤ 2 ^ 30 }
-    requires whole { AreWhole count changes.now }
-    ensures image { OnOk result (T.image site.new ≡ option_map (put_image first changes.now) (T.image site.old)) }
+    requires whole { AreWhole count changes.now.entries }
+    ensures image { OnOk result (T.image site.new ≡ option_map (put_image first changes.now.entries) (T.image site.old)) }
     ensures exact { OnOk result (IsExact (T.image site.new) (T.left_at site.new (T.moment site.new))) }
-    ensures told { SameTold (T.image site.old) (T.image site.new) }
+    ensures told { Became (Places first count changes.now.entries) (T.image site.old) (T.image site.new) }
     ensures said { T.said site.new ≡ T.said site.old }
-    ensures stops { LeavesOnly (T.moment site.old) (T.moment site.new) (T.left_at site.old) (T.left_at site.new) (PlacedFrom (T.left_at site.old (T.moment site.old)) first count changes.now) }
+    ensures stops { LeavesOnly (T.moment site.old) (T.moment site.new) (T.left_at site.old) (T.left_at site.new) (PlacedFrom (T.left_at site.old (T.moment site.old)) first count changes.now.entries) }
     ensures cause { HasCause (T.disk_faults site.old) (T.disk_faults site.new) result }
     ensures say_faults { T.say_faults site.new ≡ T.say_faults site.old }
     ensures room { HasRoom (T.room site.old) (T.room site.new) (T.disk_faults site.old) (T.disk_faults site.new) (λ room. journal_start first count ≤ room.0) }
 {
-    for change in changes {
-        write_block(site, first, count, change)?;
+    for (number, block) in changes {
+        write_block(site, first, count, *number, block)?;
     }
     site.sync()
 }

@@ -1,23 +1,24 @@
 // The journal: the blocks of the last commit, and the changes that are staged.
-ghost use Rattle.std.specs.Prelude.{◌≡◌, ◌≤◌, ◌^◌, ◌<◌, ◌%◌, All, ℕ, length, IsTrue, IfOk, IfErr, OnOk, MatchResult};
+ghost use Rattle.std.specs.Prelude.{◌≡◌, ◌≤◌, ◌^◌, ◌<◌, ◌%◌, All, ℕ, length, true, refl, ◌==◌, IsTrue, IfOk, IfErr, OnOk, MatchResult};
 ghost use Rattle.std.specs.Option.{option_map};
-ghost use Rattle.std.specs.Io.KnownBytes.{Appends};
 ghost use Rattle.hal_base.specs.Fault.{Rose};
 ghost use Rattle.hal_base.specs.Room.{HasRoom};
-ghost use Rattle.hal_base.specs.Stops.{LeavesOnly, LeavesExactly, Read};
+ghost use Rattle.hal_base.specs.Stops.{Read};
 ghost use Rattle.block_journal.specs.Commit.{last_byte};
 ghost use Rattle.block_journal.specs.Redo.{are_changes, put_all, redone};
-ghost use Rattle.block_journal.specs.Device.{SameTold};
-ghost use Rattle.block_journal.specs.Redoing.{IsRedone, SameRedo, OpeningLeaves, IsDamaged, IsSound};
+ghost use Rattle.block_journal.specs.Device.{Became};
+ghost use Rattle.block_journal.specs.Redoing.{IsRedone, SameRedo, RedoMakes, OpensAt, IsDamaged, IsSound};
 ghost use Rattle.block_journal.specs.Stands.{Stands, told_where, say_room};
+ghost use Rattle.block_journal.specs.Steady.{IsSteady};
 
-use crate::Change;
+use crate::change::Changes;
 use crate::fault::{OpenFault, OpenWhy};
 use crate::open::load;
 use crate::protocol::commit_changes;
-use crate::staged::{copy_block, make_body, make_changes, put_change};
+use crate::staged::{copy_block, make_body, make_changes};
 use hal_base::{BLOCK, Blocks, Failed, JournalFault, Live, Site, StageFault, Store};
 use std::alloc::Global;
+use std::collections::BTreeMap;
 
 /// Blocks that stand in an image from `first` on, with their journal behind them. All of them are held in
 /// memory, and beside them what is staged.
@@ -27,14 +28,14 @@ pub struct Journal<T: Site> {
     first: u64,
     count: u32,
     kept: Vec<[u8; BLOCK]>,
-    staged: Vec<Change>,
+    staged: Changes,
     fetches: u64,
     live: bool,
     ghost behind: { 8192 ≤ first },
     ghost near: { first ≤ 2 ^ 30 },
     ghost counted: { length kept.items ≡ count },
     ghost whole: { All (λ block. length block ≡ 4096) kept.items },
-    ghost rise: { IsTrue (are_changes 0 count staged.items) },
+    ghost rise: { are_changes 0 count staged.entries ≡ true },
     ghost stands: { IsTrue live → Stands first count kept.items (T.image site) (T.left_at site (T.moment site)) },
 }
 
@@ -50,21 +51,21 @@ impl<T: Site> Journal<T> {
         requires multiple { first % 4096 ≡ 0 }
         requires behind { 8192 ≤ first }
         requires near { first ≤ 2 ^ 30 }
-        ensures committed { IfOk result (λ journal. ⟦<Journal<T> as Blocks>⟧.committed journal ≡ option_map (redone first count) (T.image site)) }
-        ensures list { IfOk result (λ journal. ⟦<Journal<T> as Blocks>⟧.list journal ≡ option_map (redone first count) (T.image site)) }
-        ensures place { IfOk result (λ journal. (journal.first ≡ first) × (⟦<Journal<T> as Blocks>⟧.number journal ≡ count)) }
-        ensures live { IfOk result (λ journal. IsTrue (⟦<Journal<T> as Live>⟧.live journal)) }
-        ensures fetches { IfOk result (λ journal. ⟦<Journal<T> as Blocks>⟧.fetches journal ≡ 0) }
-        ensures exactly { IfOk result (λ journal. LeavesExactly (⟦<Journal<T> as Blocks>⟧.moment journal) (⟦<Journal<T> as Blocks>⟧.left_at journal) (⟦<Journal<T> as Blocks>⟧.committed journal) (⟦<Journal<T> as Blocks>⟧.said journal)) }
+        ensures committed { IfOk result (λ journal. (⟦<Journal<T> as Blocks>⟧.seen journal).committed ≡ option_map (redone first count) (T.image site)) }
+        ensures list { IfOk result (λ journal. (⟦<Journal<T> as Blocks>⟧.seen journal).list ≡ option_map (redone first count) (T.image site)) }
+        ensures place { IfOk result (λ journal. (journal.first ≡ first) × ((⟦<Journal<T> as Blocks>⟧.seen journal).number ≡ count)) }
+        ensures live { IfOk result (λ journal. IsTrue (⟦<Journal<T> as Blocks>⟧.seen journal).live) }
+        ensures clean { IfOk result (λ journal. (⟦<Journal<T> as Blocks>⟧.seen journal).clean ≡ true) }
+        ensures fetches { IfOk result (λ journal. (⟦<Journal<T> as Blocks>⟧.seen journal).fetches ≡ 0) }
         ensures redone { IfOk result (λ journal. IsRedone first count (T.image site) (T.image journal.site)) }
         ensures sound { OnOk result (IsSound first count (T.image site)) }
         ensures volume { IfErr result (λ fault. fault.why ≡ OpenWhy.NotAVolume → ⊥) }
         ensures damaged { IfErr result (λ fault. (rule : ℕ) → fault.why ≡ OpenWhy.Damaged rule → (rule ≡ 1) × (T.image fault.site ≡ T.image site) × IsDamaged first count (T.image site)) }
         ensures cause { IfErr result (λ fault. fault.why ≡ OpenWhy.DiskFault → Rose (T.disk_faults site) (T.disk_faults fault.site)) }
         ensures memory { IfErr result (λ fault. fault.why ≡ OpenWhy.Memory → SameRedo first count (T.image site) (T.image fault.site)) }
-        ensures told { MatchResult result (λ journal. SameTold (T.image site) (T.image journal.site)) (λ fault. SameTold (T.image site) (T.image fault.site)) }
+        ensures told { MatchResult result (λ journal. Became (RedoMakes first count) (T.image site) (T.image journal.site)) (λ fault. Became (RedoMakes first count) (T.image site) (T.image fault.site)) }
         ensures said { MatchResult result (λ journal. T.said journal.site ≡ T.said site) (λ fault. T.said fault.site ≡ T.said site) }
-        ensures stops { MatchResult result (λ journal. LeavesOnly (T.moment site) (T.moment journal.site) (T.left_at site) (T.left_at journal.site) (OpeningLeaves (T.left_at site (T.moment site)) (T.image site) first count)) (λ fault. LeavesOnly (T.moment site) (T.moment fault.site) (T.left_at site) (T.left_at fault.site) (OpeningLeaves (T.left_at site (T.moment site)) (T.image site) first count)) }
+        ensures stops { MatchResult result (λ journal. (synced : ℕ) × (synced ≤ T.moment journal.site) × OpensAt first count (T.image site) (T.moment site) (T.moment journal.site) (T.left_at site) (T.left_at journal.site) synced) (λ fault. (synced : ℕ) × OpensAt first count (T.image site) (T.moment site) (T.moment fault.site) (T.left_at site) (T.left_at fault.site) synced) }
         ensures later { MatchResult result (λ journal. T.disk_faults site ≤ T.disk_faults journal.site) (λ fault. T.disk_faults site ≤ T.disk_faults fault.site) }
         ensures say_faults { MatchResult result (λ journal. T.say_faults journal.site ≡ T.say_faults site) (λ fault. T.say_faults fault.site ≡ T.say_faults site) }
         ensures room { MatchResult result (λ journal. HasRoom (T.room site) (T.room journal.site) (T.disk_faults site) (T.disk_faults journal.site) (λ room. last_byte first count ≤ room.0)) (λ fault. HasRoom (T.room site) (T.room fault.site) (T.disk_faults site) (T.disk_faults fault.site) (λ room. last_byte first count ≤ room.0)) }
@@ -75,7 +76,7 @@ impl<T: Site> Journal<T> {
                 first,
                 count,
                 kept,
-                staged: Vec::new(alloc),
+                staged: BTreeMap::new(alloc),
                 fetches: 0,
                 live: true,
             }),
@@ -112,25 +113,41 @@ impl<T: Site> Live for Journal<T> {
 }
 
 impl<T: Site> Blocks for Journal<T> {
-    ghost list = { λ j. told_where (T.image j.site) (put_all j.staged.items j.kept.items) };
+    ghost use Rattle.block_journal.specs.JournalLaw.{told_shaped, alike, clean_list, standing_is, stands_exactly, steady_same, steady_more};
 
-    ghost number = { λ j. j.count };
+    ghost seen = { λ j. record {
+      list = told_where (T.image j.site) (put_all j.staged.entries j.kept.items);
+      committed = told_where (T.image j.site) j.kept.items;
+      standing = option_map (redone j.first j.count) (T.image j.site);
+      number = j.count;
+      said = T.said j.site;
+      moment = T.moment j.site;
+      left_at = Read (redone j.first j.count) (T.left_at j.site);
+      disk_faults = T.disk_faults j.site;
+      say_faults = T.say_faults j.site;
+      room = say_room (last_byte j.first j.count) (T.room j.site);
+      fetches = j.fetches;
+      clean = length j.staged.entries == 0;
+      live = j.live;
+    } };
 
-    ghost committed = { λ j. told_where (T.image j.site) j.kept.items };
+    ghost steady = { λ a b. IsSteady a.first b.first a.count b.count (T.image a.site) (T.image b.site) (T.moment a.site) (T.moment b.site) (T.left_at a.site) (T.left_at b.site) };
 
-    ghost said = { λ j. T.said j.site };
+    ghost alive = { λ j. refl };
 
-    ghost moment = { λ j. T.moment j.site };
+    ghost shaped = { λ j. told_shaped (T.image j.site) j.count j.staged.entries j.kept.items j.rise j.counted j.whole };
 
-    ghost left_at = { λ j moment blocks text. Read (redone j.first j.count) (T.left_at j.site) moment blocks text };
+    ghost told_alike = { λ j. alike (T.image j.site) (put_all j.staged.entries j.kept.items) j.kept.items };
 
-    ghost disk_faults = { λ j. T.disk_faults j.site };
+    ghost clean_is = { λ j clean. clean_list (T.image j.site) j.staged.entries j.kept.items clean };
 
-    ghost say_faults = { λ j. T.say_faults j.site };
+    ghost stands = { λ j live. standing_is j.first j.count j.kept.items (T.image j.site) (T.left_at j.site (T.moment j.site)) (j.stands live) };
 
-    ghost room = { λ j. say_room (last_byte j.first j.count) (T.room j.site) };
+    ghost exact = { λ j live. stands_exactly j.first j.count (T.moment j.site) j.kept.items (T.image j.site) (T.said j.site) (T.left_at j.site) (j.stands live) (λ bytes text left. T.said_now j.site bytes text left) };
 
-    ghost fetches = { λ j. j.fetches };
+    ghost steady_none = { λ j. steady_same j.first j.count (T.image j.site) (T.moment j.site) (T.left_at j.site) };
+
+    ghost steady_then = { λ a b c first second. steady_more first second };
 
     fn count(&self) -> u32 {
         self.count
@@ -143,8 +160,8 @@ impl<T: Site> Blocks for Journal<T> {
     }
 
     fn stage(&mut self, n: u32, from: &[u8; BLOCK]) -> Result<(), StageFault> {
-        match put_change(&mut self.staged, n, from) {
-            Ok(()) => Ok(()),
+        match self.staged.insert(n, *from) {
+            Ok(_) => Ok(()),
             Err(_) => Err(StageFault::Memory),
         }
     }
@@ -156,7 +173,7 @@ impl<T: Site> Store for Journal<T> {
         if self.staged.is_empty() {
             return Ok(());
         }
-        let Ok(body) = make_body(*self.staged.allocator(), &self.staged) else {
+        let Ok(body) = make_body(*self.kept.allocator(), &self.staged) else {
             return Err(JournalFault::Memory);
         };
         let done = commit_changes(&mut self.site, self.first, count, &self.staged, &body);

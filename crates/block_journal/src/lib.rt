@@ -6,11 +6,11 @@ mod change;
 mod device;
 mod fault;
 mod journal;
+mod laws;
 mod open;
 mod protocol;
 mod redo;
 mod staged;
 
-pub use change::Change;
 pub use fault::{OpenFault, OpenWhy};
 pub use journal::Journal;

@@ -3,11 +3,11 @@ ghost use Rattle.std.specs.Prelude.{◌≡◌, ◌+◌, ◌-◌, ◌*◌, ◌^�
 ghost use Rattle.hal_base.specs.Fault.{HasCause, HasCauseFor};
 ghost use Rattle.hal_base.specs.Room.{HasRoom};
 ghost use Rattle.hal_base.specs.Stops.{LeavesOnly};
-ghost use Rattle.block_journal.specs.Device.{SameTold, IsExact};
+ghost use Rattle.block_journal.specs.Device.{Became, MadeFrom, IsExact};
 ghost use Rattle.block_journal.specs.Opening.{ReadsBlock, ReadsBlocks, IsReady};
 ghost use Rattle.block_journal.specs.Commit.{last_byte};
 ghost use Rattle.block_journal.specs.Redo.{journal_start, is_open};
-ghost use Rattle.block_journal.specs.Redoing.{IsRedone, SameRedo, RedoLeaves, OpeningLeaves, IsDamaged, IsSound};
+ghost use Rattle.block_journal.specs.Redoing.{IsRedone, SameRedo, RedoMakes, OpensAt, IsDamaged, IsSound};
 ghost use Rattle.block_journal.specs.Stands.{Stands};
 
 use crate::device::{place_of, write_synced};
@@ -24,9 +24,9 @@ pub(crate) fn fill<T: Site>(site: &mut T, first: u64, count: u32) -> Result<(), 
     requires exact { IsExact (T.image site.old) (T.left_at site.old (T.moment site.old)) }
     ensures ready { OnOk result (IsReady first count (T.image site.old) (T.image site.new)) }
     ensures exact { OnOk result (IsExact (T.image site.new) (T.left_at site.new (T.moment site.new))) }
-    ensures told { SameTold (T.image site.old) (T.image site.new) }
+    ensures told { Became (RedoMakes first count) (T.image site.old) (T.image site.new) }
     ensures said { T.said site.new ≡ T.said site.old }
-    ensures stops { LeavesOnly (T.moment site.old) (T.moment site.new) (T.left_at site.old) (T.left_at site.new) (RedoLeaves (T.left_at site.old (T.moment site.old)) (T.image site.old) first count) }
+    ensures stops { LeavesOnly (T.moment site.old) (T.moment site.new) (T.left_at site.old) (T.left_at site.new) (MadeFrom (RedoMakes first count) (T.left_at site.old (T.moment site.old)) (T.image site.old)) }
     ensures cause { HasCause (T.disk_faults site.old) (T.disk_faults site.new) result }
     ensures say_faults { T.say_faults site.new ≡ T.say_faults site.old }
     ensures room { HasRoom (T.room site.old) (T.room site.new) (T.disk_faults site.old) (T.disk_faults site.new) (λ room. journal_start first count ≤ room.0) }
@@ -113,9 +113,9 @@ pub(crate) fn load<T: Site>(
     ensures sound { OnOk result (IsSound first count (T.image site.old)) }
     ensures damaged { IsErrOf result LoadFault.Damaged → (T.image site.new ≡ T.image site.old) × IsDamaged first count (T.image site.old) }
     ensures memory { IsErrOf result LoadFault.Memory → SameRedo first count (T.image site.old) (T.image site.new) }
-    ensures told { SameTold (T.image site.old) (T.image site.new) }
+    ensures told { Became (RedoMakes first count) (T.image site.old) (T.image site.new) }
     ensures said { T.said site.new ≡ T.said site.old }
-    ensures stops { LeavesOnly (T.moment site.old) (T.moment site.new) (T.left_at site.old) (T.left_at site.new) (OpeningLeaves (T.left_at site.old (T.moment site.old)) (T.image site.old) first count) }
+    ensures stops { (synced : ℕ) × OnOk result (synced ≤ T.moment site.new) × OpensAt first count (T.image site.old) (T.moment site.old) (T.moment site.new) (T.left_at site.old) (T.left_at site.new) synced }
     ensures cause { HasCauseFor (T.disk_faults site.old) (T.disk_faults site.new) result LoadFault.DiskFault }
     ensures say_faults { T.say_faults site.new ≡ T.say_faults site.old }
     ensures room { HasRoom (T.room site.old) (T.room site.new) (T.disk_faults site.old) (T.disk_faults site.new) (λ room. last_byte first count ≤ room.0) }

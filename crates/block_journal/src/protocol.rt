@@ -5,17 +5,17 @@
 //
 // Until the gate is open, a stop leaves the blocks as they were. From then on the body redoes them, however
 // much of them was written, so the new blocks are kept. The gate closes once they are on the disk.
-ghost use Rattle.std.specs.Prelude.{◌≡◌, ◌+◌, ◌*◌, ◌^◌, ◌<◌, ◌≤◌, ℕ, List, length, OnOk};
+ghost use Rattle.std.specs.Prelude.{◌≡◌, ◌+◌, ◌*◌, ◌^◌, ◌<◌, ◌≤◌, ℕ, List, length, OnOk, IsTrue};
 ghost use Rattle.hal_base.specs.Fault.{HasCause};
 ghost use Rattle.hal_base.specs.Room.{HasRoom};
 ghost use Rattle.hal_base.specs.Stops.{LeavesOnly};
-ghost use Rattle.block_journal.specs.Commit.{IsSettled, CommitFrom, HasChanges, last_byte};
-ghost use Rattle.block_journal.specs.Device.{SameTold, IsExact};
-ghost use Rattle.block_journal.specs.Placing.{AreWhole};
-ghost use Rattle.block_journal.specs.Redo.{body_bytes};
+ghost use Rattle.block_journal.specs.Commit.{IsSettled, CommitMakes, HasChanges, last_byte};
+ghost use Rattle.block_journal.specs.Device.{Became, MadeFrom, IsExact};
+ghost use Rattle.block_journal.specs.Redo.{are_changes, body_bytes};
 
-use crate::Change;
-use crate::device::{place_of, write_blocks, write_synced};
+use crate::change::Changes;
+use crate::device::{place_of, write_synced};
+use crate::redo::redo_changes;
 use hal_base::{Failed, Site};
 
 /// Where the gate is.
@@ -26,27 +26,26 @@ pub(crate) fn commit_changes<T: Site>(
     site: &mut T,
     first: u64,
     count: u32,
-    changes: &[Change],
+    changes: &Changes,
     body: &[u8],
 ) -> Result<(), Failed>
     requires behind { 8192 ≤ first }
     requires near { first ≤ 2 ^ 30 }
-    requires whole { AreWhole count changes.now }
-    requires few { length changes.now ≤ count }
-    requires body { body.now ≡ body_bytes changes.now }
+    requires rise { IsTrue (are_changes 0 count changes.now.entries) }
+    requires some { 1 ≤ length changes.now.entries }
+    requires body { body.now ≡ body_bytes changes.now.entries }
     requires settled { (image : List ℕ) → T.image site.old ≡ Some image → IsSettled first count image }
     requires exact { IsExact (T.image site.old) (T.left_at site.old (T.moment site.old)) }
-    ensures done { OnOk result (HasChanges first count changes.now (T.image site.old) (T.image site.new)) }
+    ensures done { OnOk result (HasChanges first count changes.now.entries (T.image site.old) (T.image site.new)) }
     ensures exact { OnOk result (IsExact (T.image site.new) (T.left_at site.new (T.moment site.new))) }
-    ensures told { SameTold (T.image site.old) (T.image site.new) }
+    ensures told { Became (CommitMakes first count changes.now.entries) (T.image site.old) (T.image site.new) }
     ensures said { T.said site.new ≡ T.said site.old }
-    ensures stops { LeavesOnly (T.moment site.old) (T.moment site.new) (T.left_at site.old) (T.left_at site.new) (CommitFrom (T.left_at site.old (T.moment site.old)) (T.image site.old) first count changes.now) }
+    ensures stops { LeavesOnly (T.moment site.old) (T.moment site.new) (T.left_at site.old) (T.left_at site.new) (MadeFrom (CommitMakes first count changes.now.entries) (T.left_at site.old (T.moment site.old)) (T.image site.old)) }
     ensures cause { HasCause (T.disk_faults site.old) (T.disk_faults site.new) result }
     ensures say_faults { T.say_faults site.new ≡ T.say_faults site.old }
     ensures room { HasRoom (T.room site.old) (T.room site.new) (T.disk_faults site.old) (T.disk_faults site.new) (λ room. last_byte first count ≤ room.0) }
 {
     write_synced(site, place_of(first, count), body)?;
     write_synced(site, GATE, &[1])?;
-    write_blocks(site, first, count, changes)?;
-    write_synced(site, GATE, &[0])
+    redo_changes(site, first, count, changes)
 }

@@ -6,14 +6,14 @@ ghost use Rattle.hal_base.specs.Room.{HasRoom};
 ghost use Rattle.hal_base.specs.Stops.{LeavesOnly};
 ghost use Rattle.block_journal.specs.Body.{HasBody};
 ghost use Rattle.block_journal.specs.Commit.{last_byte};
-ghost use Rattle.block_journal.specs.Device.{SameTold, IsExact};
+ghost use Rattle.block_journal.specs.Device.{Became, MadeFrom, IsExact};
 ghost use Rattle.block_journal.specs.Placing.{AreWhole};
 ghost use Rattle.block_journal.specs.Reads.{LacksBody};
 ghost use Rattle.block_journal.specs.Redo.{is_open};
-ghost use Rattle.block_journal.specs.Redoing.{IsToRedo, IsRedone, RedoLeaves, IsDamaged, IsSound};
+ghost use Rattle.block_journal.specs.Redoing.{IsToRedo, IsRedone, RedoMakes, IsDamaged, IsSound};
 
-use crate::Change;
 use crate::body::read_body;
+use crate::change::Changes;
 use crate::device::{write_blocks, write_synced};
 use crate::fault::LoadFault;
 use crate::open::{fill, read_gate};
@@ -22,22 +22,22 @@ use hal_base::{Failed, Site};
 use std::alloc::Global;
 
 /// Makes the changes of an open journal, and closes it.
-fn redo_changes<T: Site>(
+pub(crate) fn redo_changes<T: Site>(
     site: &mut T,
     first: u64,
     count: u32,
-    changes: &[Change],
+    changes: &Changes,
 ) -> Result<(), Failed>
     requires behind { 8192 ≤ first }
     requires near { first ≤ 2 ^ 30 }
-    requires whole { AreWhole count changes.now }
-    requires redo { (image : List ℕ) → T.image site.old ≡ Some image → IsToRedo first count changes.now image }
+    requires whole { AreWhole count changes.now.entries }
+    requires redo { (image : List ℕ) → T.image site.old ≡ Some image → IsToRedo first count changes.now.entries image }
     requires exact { IsExact (T.image site.old) (T.left_at site.old (T.moment site.old)) }
     ensures done { OnOk result (IsRedone first count (T.image site.old) (T.image site.new)) }
     ensures exact { OnOk result (IsExact (T.image site.new) (T.left_at site.new (T.moment site.new))) }
-    ensures told { SameTold (T.image site.old) (T.image site.new) }
+    ensures told { Became (RedoMakes first count) (T.image site.old) (T.image site.new) }
     ensures said { T.said site.new ≡ T.said site.old }
-    ensures stops { LeavesOnly (T.moment site.old) (T.moment site.new) (T.left_at site.old) (T.left_at site.new) (RedoLeaves (T.left_at site.old (T.moment site.old)) (T.image site.old) first count) }
+    ensures stops { LeavesOnly (T.moment site.old) (T.moment site.new) (T.left_at site.old) (T.left_at site.new) (MadeFrom (RedoMakes first count) (T.left_at site.old (T.moment site.old)) (T.image site.old)) }
     ensures cause { HasCause (T.disk_faults site.old) (T.disk_faults site.new) result }
     ensures say_faults { T.say_faults site.new ≡ T.say_faults site.old }
     ensures room { HasRoom (T.room site.old) (T.room site.new) (T.disk_faults site.old) (T.disk_faults site.new) (λ room. last_byte first count ≤ room.0) }
@@ -57,9 +57,9 @@ fn redo<T: Site>(alloc: Global, site: &mut T, first: u64, count: u32) -> Result<
     ensures body { OnOk result ((image : List ℕ) → T.image site.old ≡ Some image → HasBody first count image) }
     ensures damaged { IsErrOf result LoadFault.Damaged → (T.image site.new ≡ T.image site.old) × LacksBody first count (T.image site.old) }
     ensures memory { IsErrOf result LoadFault.Memory → T.image site.new ≡ T.image site.old }
-    ensures told { SameTold (T.image site.old) (T.image site.new) }
+    ensures told { Became (RedoMakes first count) (T.image site.old) (T.image site.new) }
     ensures said { T.said site.new ≡ T.said site.old }
-    ensures stops { LeavesOnly (T.moment site.old) (T.moment site.new) (T.left_at site.old) (T.left_at site.new) (RedoLeaves (T.left_at site.old (T.moment site.old)) (T.image site.old) first count) }
+    ensures stops { LeavesOnly (T.moment site.old) (T.moment site.new) (T.left_at site.old) (T.left_at site.new) (MadeFrom (RedoMakes first count) (T.left_at site.old (T.moment site.old)) (T.image site.old)) }
     ensures cause { HasCauseFor (T.disk_faults site.old) (T.disk_faults site.new) result LoadFault.DiskFault }
     ensures say_faults { T.say_faults site.new ≡ T.say_faults site.old }
     ensures room { HasRoom (T.room site.old) (T.room site.new) (T.disk_faults site.old) (T.disk_faults site.new) (λ room. last_byte first count ≤ room.0) }
@@ -85,9 +85,9 @@ pub(crate) fn settle<T: Site>(
     ensures sound { OnOk result (IsSound first count (T.image site.old)) }
     ensures damaged { IsErrOf result LoadFault.Damaged → (T.image site.new ≡ T.image site.old) × IsDamaged first count (T.image site.old) }
     ensures memory { IsErrOf result LoadFault.Memory → T.image site.new ≡ T.image site.old }
-    ensures told { SameTold (T.image site.old) (T.image site.new) }
+    ensures told { Became (RedoMakes first count) (T.image site.old) (T.image site.new) }
     ensures said { T.said site.new ≡ T.said site.old }
-    ensures stops { LeavesOnly (T.moment site.old) (T.moment site.new) (T.left_at site.old) (T.left_at site.new) (RedoLeaves (T.left_at site.old (T.moment site.old)) (T.image site.old) first count) }
+    ensures stops { LeavesOnly (T.moment site.old) (T.moment site.new) (T.left_at site.old) (T.left_at site.new) (MadeFrom (RedoMakes first count) (T.left_at site.old (T.moment site.old)) (T.image site.old)) }
     ensures cause { HasCauseFor (T.disk_faults site.old) (T.disk_faults site.new) result LoadFault.DiskFault }
     ensures say_faults { T.say_faults site.new ≡ T.say_faults site.old }
     ensures room { HasRoom (T.room site.old) (T.room site.new) (T.disk_faults site.old) (T.disk_faults site.new) (λ room. last_byte first count ≤ room.0) }

@@ -5,20 +5,14 @@ use Rattle.std.proofs.lemmas.List.Elements.{All-nil}
 use Rattle.std.proofs.lemmas.Bool.{le-leb}
 use Rattle.std.proofs.Math.Seq.{take-suc}
 use Rattle.hal_base.specs.Disk.{written, Torn}
-use Rattle.hal_base.proofs.ImageLemmas.{torn_whole, torn_none}
+use Rattle.hal_base.proofs.ImageLemmas.{torn_whole}
 use Rattle.hal_base.specs.Stops.{LeavesOnly, TornFrom, SaidFrom}
 use Rattle.std.specs.declared.alloc.Global.{Global}
 use Rattle.hal_disk.specs.ImageNow.{image_now}
 use Rattle.hal_disk.specs.declared.call.Call.{Call}
 use Rattle.hal_disk.specs.declared.call.Call.TheVariants.{Read, Write, Sync, Say}
 use Rattle.hal_disk.specs.Record.{seen_by, said_by, stopped_by, MayLeave, LeavesWithin, LeftAt, is_near}
-use Rattle.hal_disk.specs.RecordLaw.{left_by}
-
--- what may be left now is what is left at the last moment
-pub left_now : (first : List ℕ) (calls : List Call) (image text : List ℕ) → MayLeave first calls image → text ≡ said_by calls → LeftAt first calls (2 * length calls) image text
-unfolding LeftAt MayLeave said_by
-left_now first [] image text may said = (refl, may, said)
-left_now first (call ∷ older) image text may said = inr (inr (omega arith, may, said))
+use Rattle.hal_disk.specs.RecordLaw.{left_by, left_now, seen_left}
 
 abbrev Next : List ℕ → List Call → Call → (List ℕ → List ℕ → Type 0) → Type 0
 Next first older call P = LeavesOnly (2 * length older) (2 * length (call ∷ older)) (LeftAt first older) (LeftAt first (call ∷ older)) P
@@ -39,17 +33,6 @@ pub write_next : (first : List ℕ) (older : List Call) (at : ℕ) (content : Li
 unfolding LeavesWithin MayLeave said_by
 write_next first older at content done = next first older (Write at content done) (TornFrom (LeftAt first older (2 * length older)) at (length content))
     (λ image text w. (w.0.0, left_now first older w.0.0 text w.0.1 w.1, w.0.2)) (λ image text may said. (may.0, left_now first older may.0 text may.1 said, may.2))
-
--- what reads is one of the images that may be left
-pub seen_left : (first : List ℕ) (calls : List Call) → MayLeave first calls (seen_by first calls)
-unfolding MayLeave seen_by
-seen_left first [] = refl
-seen_left first (Read ∷ older) = seen_left first older
-seen_left first (Write at content true ∷ older) = (seen_by first older, seen_left first older, torn_whole at content (seen_by first older))
-seen_left first (Write at content false ∷ older) = (seen_by first older, seen_left first older, torn_none at (length content) (seen_by first older))
-seen_left first (Sync true ∷ older) = refl
-seen_left first (Sync false ∷ older) = seen_left first older
-seen_left first (Say text said ∷ older) = seen_left first older
 
 sync_within : (first : List ℕ) (older : List Call) (done : Bool) (image text : List ℕ) → LeavesWithin first (Sync done) older image text → LeftAt first older (2 * length older) image text
 unfolding LeavesWithin

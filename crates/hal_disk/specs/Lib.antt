@@ -1,3 +1,4 @@
+pub mod Exact
 pub mod FileSite
 pub mod ImageNow
 pub mod MemSite

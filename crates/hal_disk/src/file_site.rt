@@ -120,6 +120,8 @@ impl<R: Files<File = File> + Print + Drop> Site for FileSite<R> {
 
     ghost said_now = { λ s bytes text left. absurd left };
 
+    ghost reads_now = { λ s bytes text reads words left _ _. absurd left };
+
     fn read_at(&mut self, at: u64, buf: &mut [u8]) -> Result<usize, Failed> {
         match self.read_file(at, buf) {
             Ok(count) => Ok(count),

@@ -5,7 +5,7 @@ ghost use Rattle.hal_base.specs.Disk.{written};
 ghost use Rattle.hal_base.specs.Fault.{Rose, HasCause};
 ghost use Rattle.hal_disk.specs.Record.{seen_by, said_by, stopped_by, is_near, LeftAt};
 ghost use Rattle.hal_disk.specs.ImageNow.{image_now};
-ghost use Rattle.hal_disk.specs.RecordLaw.{said_last_is};
+ghost use Rattle.hal_disk.specs.RecordLaw.{said_last_is, reads_last};
 
 use crate::Call;
 use crate::image::{copied_from, put};
@@ -158,6 +158,8 @@ impl Site for MemSite {
     ghost room = { λ _. None };
 
     ghost said_now = { λ s image text left. said_last_is s.first (reverse s.history.items) s.said.items image text s.said_is left };
+
+    ghost reads_now = { λ s image text reads words left is_image is_said. reads_last s.first (reverse s.history.items) (image_now s.first s.changed) s.said.items reads words s.image_is s.said_is is_image is_said };
 
     fn read_at(&mut self, at: u64, buf: &mut [u8]) -> Result<usize, Failed> {
         if make_slot(&mut self.history).is_err() {

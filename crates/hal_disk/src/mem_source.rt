@@ -1,5 +1,7 @@
 // Sources over a text in memory.
-ghost use Rattle.std.specs.Prelude.{◌≡◌, ◌≤◌, ◌+◌, ◌-◌, length, take, drop, Some, min};
+ghost use Rattle.std.specs.Prelude.{◌≡◌, ◌<◌, ◌≤◌, ◌↔◌, length, take, Some, min, Contains, IfOk, OnErr, IsErr};
+ghost use Rattle.std.specs.Io.KnownBytes.{Consumes, IsAtEnd, Keeps};
+ghost use Rattle.hal_base.specs.Fault.{HasCause};
 
 use hal_base::{Bytes, Failed, List, Source};
 
@@ -21,7 +23,7 @@ impl MemSource {
 
     pub fn new(text: Bytes, piece: usize, failing: List<u64>) -> MemSource
         requires { 1 ≤ piece }
-        ensures { IsNew text result }
+        ensures { IsNew text piece failing result }
     {
         MemSource {
             text,
@@ -35,13 +37,24 @@ impl MemSource {
 }
 
 impl Source for MemSource {
-    ghost use Rattle.hal_disk.specs.MemSource.{text_left};
+    ghost use Rattle.hal_disk.specs.MemSource.{text_left, HasCounted};
 
     ghost left = { λ s. Some (text_left s) };
 
     ghost read_faults = { λ s. s.faults };
 
-    fn next_piece(&mut self, buf: &mut [u8]) -> Result<usize, Failed> {
+    /// It fails where the number of this call is among those that it was given, and at no other call.
+    fn next_piece(&mut self, buf: &mut [u8]) -> Result<usize, Failed>
+        requires { 0 < length buf.old }
+        ensures within { IfOk result (λ n. n ≤ length buf.new) }
+        ensures taken { IfOk result (λ n. Consumes (Some (text_left self.old)) (Some (text_left self.new)) (take n buf.new)) }
+        ensures end { result ≡ Ok 0 → IsAtEnd (Some (text_left self.new)) }
+        ensures kept { OnErr result (Keeps (Some (text_left self.old)) (Some (text_left self.new))) }
+        ensures cause { HasCause self.old.faults self.new.faults result }
+        ensures piece { IfOk result (λ n. n ≤ self.old.piece) }
+        ensures exactly { IsErr result ↔ Contains self.old.failing self.new.calls }
+        ensures counts { HasCounted self.old self.new }
+    {
         self.calls = self.calls.saturating_add(1);
         if self.failing.as_slice().contains(&self.calls) {
             self.faults = self.faults.saturating_add(1);

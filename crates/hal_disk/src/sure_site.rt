@@ -1,6 +1,14 @@
 // A site in memory that tells its room.
-ghost use Rattle.std.specs.Prelude.{◌≡◌, ◌≤◌, ◌+◌, Some, [], length, OnOk};
+ghost use Rattle.std.specs.Prelude.{◌≡◌, ◌≤◌, ◌+◌, ◌-◌, ◌^◌, ℕ, List, None, Some, [], length, OnOk, OnErr, IsSomeAnd};
+ghost use Rattle.std.specs.Option.{option_map};
+ghost use Rattle.std.specs.Io.KnownBytes.{Appends};
 ghost use Rattle.std.specs.Vec.{vec_capacity};
+ghost use Rattle.hal_base.specs.Disk.{written, TearsTold};
+ghost use Rattle.hal_base.specs.Fault.{HasCause};
+ghost use Rattle.hal_base.specs.Room.{HasRoom};
+ghost use Rattle.hal_base.specs.Said.{AppendsPart};
+ghost use Rattle.hal_base.specs.Stops.{LeavesOnly, TornFrom, SaidFrom};
+ghost use Rattle.hal_disk.specs.Exact.{FailsPast};
 
 use crate::image::{copied_from, put};
 use hal_base::{Bytes, Failed, Memory, Site};
@@ -28,6 +36,7 @@ impl SureSite {
         ensures image { sure_image result ≡ image }
         ensures said { sure_said result ≡ [] }
         ensures room { sure_room result ≡ (length image, 0) }
+        ensures faults { (result.disk_faults ≡ 0) × (result.say_faults ≡ 0) }
     {
         let image = image.into_vec();
         SureSite {
@@ -79,6 +88,8 @@ fn make_room(bytes: &mut Vec<u8>, size: u64) -> Result<(), Memory>
 }
 
 impl Site for SureSite {
+    ghost use Rattle.hal_disk.specs.SureSite.{sure_image, sure_said, sure_room};
+
     ghost image = { λ s. Some s.image.items };
 
     ghost said = { λ s. Some s.said.items };
@@ -95,11 +106,25 @@ impl Site for SureSite {
 
     ghost said_now = { λ s bytes text left. absurd left };
 
+    ghost reads_now = { λ s bytes text reads words left _ _. absurd left };
+
     fn read_at(&mut self, at: u64, buf: &mut [u8]) -> Result<usize, Failed> {
         Ok(copied_from(&self.image, at, buf))
     }
 
-    fn write_at(&mut self, at: u64, content: &[u8]) -> Result<(), Failed> {
+    /// It fails where it would end past the image's room, and nowhere else; the image is then as it was.
+    fn write_at(&mut self, at: u64, content: &[u8]) -> Result<(), Failed>
+        requires { at + length content.now ≤ 2 ^ 63 - 1 }
+        ensures image { OnOk result (Some (sure_image self.new) ≡ option_map (written at content.now) (Some (sure_image self.old))) }
+        ensures torn { OnErr result (TearsTold at (length content.now) (Some (sure_image self.old)) (Some (sure_image self.new))) }
+        ensures unwritten { OnErr result (sure_image self.new ≡ sure_image self.old) }
+        ensures said { Some (sure_said self.new) ≡ Some (sure_said self.old) }
+        ensures stops { LeavesOnly {X = List ℕ} 0 0 (λ _ _ _. ⊥) (λ _ _ _. ⊥) (TornFrom (λ _ _. ⊥) at (length content.now)) }
+        ensures exactly { FailsPast (sure_room self.old).0 (at + length content.now) self.old.disk_faults self.new.disk_faults result }
+        ensures cause { HasCause self.old.disk_faults self.new.disk_faults result }
+        ensures say_faults { self.new.say_faults ≡ self.old.say_faults }
+        ensures room { HasRoom (Some (sure_room self.old)) (Some (sure_room self.new)) self.old.disk_faults self.new.disk_faults (λ room. at + length content.now ≤ room.0) }
+    {
         if at + content.len() as u64 <= self.image_room
             && put(&mut self.image, at as usize, content).is_ok()
         {
@@ -113,7 +138,19 @@ impl Site for SureSite {
         Ok(())
     }
 
-    fn say(&mut self, text: &[u8]) -> Result<(), Failed> {
+    /// It fails where the said bytes would pass their room, and nowhere else; nothing is then said.
+    fn say(&mut self, text: &[u8]) -> Result<(), Failed>
+        ensures said { OnOk result (Appends (Some (sure_said self.old)) (Some (sure_said self.new)) text.now) }
+        ensures part { OnErr result (AppendsPart (Some (sure_said self.old)) (Some (sure_said self.new)) text.now) }
+        ensures unsaid { OnErr result (sure_said self.new ≡ sure_said self.old) }
+        ensures untold { Some (sure_said self.old) ≡ None → Some (sure_said self.new) ≡ None }
+        ensures image { Some (sure_image self.new) ≡ Some (sure_image self.old) }
+        ensures stops { LeavesOnly {X = List ℕ} 0 0 (λ _ _ _. ⊥) (λ _ _ _. ⊥) (SaidFrom (λ _ _. ⊥) text.now) }
+        ensures exactly { FailsPast (sure_room self.old).1 (length (sure_said self.old) + length text.now) self.old.say_faults self.new.say_faults result }
+        ensures cause { HasCause self.old.say_faults self.new.say_faults result }
+        ensures disk_faults { self.new.disk_faults ≡ self.old.disk_faults }
+        ensures room { HasRoom (Some (sure_room self.old)) (Some (sure_room self.new)) self.old.say_faults self.new.say_faults (λ room. IsSomeAnd (Some (sure_said self.old)) (λ before. length before + length text.now ≤ room.1)) }
+    {
         if (self.said.len() + text.len()) as u64 <= self.said_room
             && self.said.extend_from_slice(text).is_ok()
         {

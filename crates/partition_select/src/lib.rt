@@ -1,4 +1,5 @@
-//! Which partition a record belongs to, and the order in which roots stand.
+//! Which partition a record belongs to, and the order in which roots stand: `roots` has the anchor of a key and the order
+//! of roots, with the law that it is total; the choice of a partition stands with the schema.
 #![tactic(auto)]
 
 mod roots;

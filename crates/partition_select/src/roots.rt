@@ -1,6 +1,7 @@
 ghost use Rattle.std.specs.Prelude.{◌≡◌, ◌<◌, ℕ, List};
 ghost use Rattle.std.specs.Cmp.{IsTotalOrder};
 ghost use Rattle.std.specs.declared.cmp.Ordering.TheVariants.{Equal};
+ghost use Rattle.hal_schema.specs.declared.schema.Schema.{Schema};
 ghost use Rattle.hal_schema.specs.Roots.{partition_place, anchor_of, anchor_place, root_cmp};
 
 use hal_schema::{Schema, select};
@@ -29,9 +30,9 @@ pub fn root_cmp(schema: &Schema, a: &[u8], b: &[u8]) -> Ordering
 }
 
 /// The order of roots is total, and only equal keys compare as equal.
-pub fn root_order_is_total(schema: &Schema)
-    ensures total { IsTotalOrder (root_cmp schema.now) }
-    ensures exact { (a b : List ℕ) → root_cmp schema.now a b ≡ Equal → a ≡ b }
+pub fn root_order_is_total()
+    ensures total { (schema : Schema) → IsTotalOrder (root_cmp schema) }
+    ensures exact { (schema : Schema) (a b : List ℕ) → root_cmp schema a b ≡ Equal → a ≡ b }
 {}
 
 fn place_of(schema: &Schema, key: &[u8]) -> usize

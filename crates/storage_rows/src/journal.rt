@@ -35,6 +35,27 @@ fn zeros(alloc: Global) -> Result<Bytes, AllocError> {
     Ok(Bytes::from_vec(vec![in alloc; 0; BODY]?))
 }
 
+// An image of three blocks of zeros behind a head and a gate block of other bytes; the gate is closed.
+fn marked(alloc: Global) -> Result<Bytes, AllocError> {
+    let mut image = vec![in alloc; 0u8; BODY]?;
+    for at in 0..8192usize {
+        if let Some(byte) = image.get_mut(at) {
+            *byte = (at % 200) as u8 + 2;
+        }
+    }
+    Ok(Bytes::from_vec(image))
+}
+
+// Whether all bytes below the blocks but the gate's are those of a marked image.
+fn has_marks(image: &[u8]) -> bool {
+    for at in 0..8192usize {
+        if at != 4096 && byte(image, at) != (at % 200) as u8 + 2 {
+            return false;
+        }
+    }
+    true
+}
+
 // A body that begins with these two numbers, and has a block of eights for each of the others.
 fn body_of(alloc: Global, count: u32, one: u32, numbers: &[u32]) -> Result<Vec<u8>, AllocError> {
     let mut body = Vec::new(alloc);
@@ -82,7 +103,7 @@ fn opens_alike(alloc: Global, site: &MemSite) -> Result<bool, Fail> {
 #[test]
 fn a_stop_leaves_both_old_blocks_or_both_new_ones(rt: HostRuntime) -> Result<(), Fail> {
     let alloc = rt.alloc();
-    let site = MemSite::new(alloc, zeros(alloc)?, List::new(alloc));
+    let site = MemSite::new(alloc, marked(alloc)?, List::new(alloc));
     let mut journal = Journal::open(alloc, site, FIRST, 3).ok().ok_or("opened")?;
     assert!(rt; journal.is_live());
     assert_eq!(rt; journal.count(), 3);
@@ -98,6 +119,7 @@ fn a_stop_leaves_both_old_blocks_or_both_new_ones(rt: HostRuntime) -> Result<(),
     for moment in 0..=site.calls() {
         for (kept, torn) in [(true, 0), (false, 0), (false, 1), (false, 255)] {
             let image = site.stopped(moment, kept, torn)?;
+            assert!(rt; has_marks(image.as_slice()), "{moment} {kept} {torn}");
             let first = redone_byte(image.as_slice(), 0, 0);
             let last = redone_byte(image.as_slice(), 2, 4095);
             let old = first == 0 && last == 0;
@@ -106,9 +128,29 @@ fn a_stop_leaves_both_old_blocks_or_both_new_ones(rt: HostRuntime) -> Result<(),
             assert!(rt; new || moment < sure, "{moment} {kept} {torn}");
             let again = opened(alloc, image)?;
             assert_eq!(rt; ends(&again), (first, last), "{moment} {kept} {torn}");
+            assert!(rt; has_marks(again.image()), "{moment} {kept} {torn}");
             assert!(rt; opens_alike(alloc, &again)?, "{moment} {kept} {torn}");
         }
     }
+    Ok(())
+}
+
+#[test]
+fn a_commit_of_no_blocks_makes_no_call(rt: HostRuntime) -> Result<(), Fail> {
+    let alloc = rt.alloc();
+    let calls = opened(alloc, zeros(alloc)?)?.calls();
+    let site = MemSite::new(alloc, zeros(alloc)?, List::new(alloc));
+    let mut journal = Journal::open(alloc, site, FIRST, 3).ok().ok_or("opened")?;
+    assert!(rt; journal.is_live());
+    journal.commit().ok().ok_or("committed")?;
+    assert_eq!(rt; journal.count(), 3);
+    assert!(rt; journal.is_live());
+    journal.stage(1, &[5; BLOCK]).ok().ok_or("staged")?;
+    assert!(rt; journal.is_live());
+    journal.forget();
+    assert!(rt; journal.is_live());
+    journal.commit().ok().ok_or("committed")?;
+    assert_eq!(rt; journal.close().calls(), calls);
     Ok(())
 }
 

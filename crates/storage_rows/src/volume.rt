@@ -184,6 +184,8 @@ impl Site for Untold {
 
     ghost said_now = { λ s bytes text left. absurd left };
 
+    ghost reads_now = { λ s bytes text reads words left _ _. absurd left };
+
     fn read_at(&mut self, at: u64, buf: &mut [u8]) -> Result<usize, Failed> {
         self.0.read_at(at, buf)
     }

@@ -6,7 +6,7 @@ use Rattle.block_journal.proofs.body.read_changes.Given as goal
 
 abbrev pub invariant-loop-k : goal.invariant-loop-k
 invariant-loop-k g l = record {
-  some : ReadsSome l.at l.k l.count l.least (g.T.Site.image l.fn.site) l.changes.items;
+  some : ReadsSome l.at l.k l.count l.least (g.T.Site.image l.fn.site) l.changes.entries;
   image : g.T.Site.image l.site ≡ g.T.Site.image l.fn.site;
   stops : LeavesOnly (g.T.Site.moment l.fn.site) (g.T.Site.moment l.site) (g.T.Site.left_at l.fn.site) (g.T.Site.left_at l.site) (g.T.Site.left_at l.fn.site (g.T.Site.moment l.fn.site));
   faults : g.T.Site.disk_faults l.fn.site ≤ g.T.Site.disk_faults l.site;

@@ -1,116 +1,82 @@
-use Rattle.std.proofs.Common.{◌≡◌, ◌∙◌, ◌+◌, ◌*◌, ℕ, List, [], ◌∷◌, length, Some, ap}
-use Rattle.hal_base.specs.Disk.{written}
-use Rattle.block_journal.specs.Redo.{body_bytes, put_image}
+use Rattle.std.proofs.Common.{◌+◌, ◌*◌, [], ◌∷◌, length, arith}
+use Rattle.hal_base.specs.Disk.{Torn, written}
+use Rattle.block_journal.specs.JournalLaw.{are_whole}
+use Rattle.block_journal.specs.Redo.{body_bytes}
+use Rattle.block_journal.specs.Redoing.{IsToRedo, RedoMakes}
 use Rattle.block_journal.proofs.Calls.{room-larger, room-then, if_ok}
-use Rattle.block_journal.proofs.Steps.{length-body, image_is, body_is, body_step, gate_step, blocks_step, closing_step, commit_done, room_body, room_gate, room_blocks, body_fits}
-use Rattle.block_journal.proofs.Torn.{Begins}
+use Rattle.block_journal.proofs.Made.{chain-start, chain-stops, chain-made, chain-told, chain-on, chain-now}
+use Rattle.block_journal.proofs.Steps.{body_is, begins_with, commit_start, body_step, gate_step, redo_step, opened_redo, commit_done, room_body, room_gate, last_fits}
 use Rattle.block_journal.proofs.protocol.commit_changes.Goals as goal
 
 pub write_synced-requires : goal.write_synced-requires
-write_synced-requires g c =
-    let long : length c.args.body.now ≡ 8 + 4100 * length c.args.changes.now = ap length c.requires.body ∙ length-body c.args.count c.args.changes.now c.requires.whole in
-    body_fits c.args.first c.args.count c.place_of.result (length c.args.body.now) (length c.args.changes.now) c.place_of.ensures long c.requires.few c.requires.near c.ranges.count.fits
+write_synced-requires g c = omega (arith, room_body c.args.first c.args.count c.place_of.result c.args.changes.now.entries c.args.body.now c.place_of.ensures c.requires.rise c.requires.body, last_fits c.args.first c.args.count c.requires.near c.ranges.count.fits)
+
+pub redo_changes-requires-clause-whole : goal.redo_changes-requires-clause-whole
+redo_changes-requires-clause-whole g c = are_whole 0 c.args.count c.args.changes.now.entries c.requires.rise
+
+pub redo_changes-requires-clause-redo : goal.redo_changes-requires-clause-redo
+redo_changes-requires-clause-redo g c =
+    let begins = begins_with c.args.first c.args.count c.args.changes.now.entries (g.T.Site.image c.args.site.now) c.requires.behind c.requires.rise c.requires.some c.ranges.count.fits c.requires.settled in
+    let c0 = chain-start (g.T.Site.moment c.args.site.now) (g.T.Site.left_at c.args.site.now) (commit_start c.args.first c.args.count c.args.changes.now.entries (g.T.Site.image c.args.site.now) begins c.requires.exact) in
+    let c1 = chain-on c0 (Torn c.place_of.result (length c.args.body.now)) (body_step c.args.first c.args.count c.args.changes.now.entries (g.T.Site.image c.args.site.now) begins c.place_of.result (length c.args.body.now) c.place_of.ensures) (written (c.args.first + 4096 * c.args.count) (body_bytes c.args.changes.now.entries)) c.write_synced.ensures.told (body_is c.place_of.result (c.args.first + 4096 * c.args.count) c.args.body.now (body_bytes c.args.changes.now.entries) (g.T.Site.image c.args.site.now) (g.T.Site.image c.write_synced.new.site) c.place_of.ensures c.requires.body c.in_ok-write_synced.ensures.image) c.in_ok-write_synced.ensures.exact c.write_synced.ensures.stops in
+    let c2 = chain-on c1 (Torn 4096 1) (gate_step c.args.first c.args.count c.args.changes.now.entries (g.T.Site.image c.args.site.now) begins) (written 4096 (1 ∷ [])) c.write_synced-2.ensures.told c.in_ok-write_synced-2.ensures.image c.in_ok-write_synced-2.ensures.exact c.write_synced-2.ensures.stops in
+    chain-now (g.T.Site.image c.args.site.now) (g.T.Site.image c.write_synced-2.new.site) _ (IsToRedo c.args.first c.args.count c.args.changes.now.entries) c2.is c2.untold (opened_redo c.args.first c.args.count c.args.changes.now.entries (g.T.Site.image c.args.site.now) begins)
 
 pub returns-in_err-write_synced-clause-stops : goal.returns-in_err-write_synced-clause-stops
 returns-in_err-write_synced-clause-stops g c =
-    let place_is = c.place_of.ensures in
-    let begins : (y : List ℕ) → g.T.Site.image c.args.site.now ≡ Some y → Begins c.args.first c.args.count c.args.changes.now y = λ y told.
-    let settled = c.requires.settled y told in
-    record { behind = c.requires.behind; whole = c.requires.whole; few = c.requires.few; small = c.ranges.count.fits; long = settled.long; closed = settled.closed } in
-    let exact = c.requires.exact in
-    let s1 = body_step c.args.first c.args.count c.args.changes.now (g.T.Site.image c.args.site.now) begins c.place_of.result (length c.args.body.now) place_is exact c.write_synced.ensures.stops in
-    s1
+    let begins = begins_with c.args.first c.args.count c.args.changes.now.entries (g.T.Site.image c.args.site.now) c.requires.behind c.requires.rise c.requires.some c.ranges.count.fits c.requires.settled in
+    let c0 = chain-start (g.T.Site.moment c.args.site.now) (g.T.Site.left_at c.args.site.now) (commit_start c.args.first c.args.count c.args.changes.now.entries (g.T.Site.image c.args.site.now) begins c.requires.exact) in
+    chain-stops c0 (Torn c.place_of.result (length c.args.body.now)) (body_step c.args.first c.args.count c.args.changes.now.entries (g.T.Site.image c.args.site.now) begins c.place_of.result (length c.args.body.now) c.place_of.ensures) c.write_synced.ensures.stops
+
+pub returns-in_err-write_synced-clause-told : goal.returns-in_err-write_synced-clause-told
+returns-in_err-write_synced-clause-told g c =
+    let begins = begins_with c.args.first c.args.count c.args.changes.now.entries (g.T.Site.image c.args.site.now) c.requires.behind c.requires.rise c.requires.some c.ranges.count.fits c.requires.settled in
+    let c0 = chain-start (g.T.Site.moment c.args.site.now) (g.T.Site.left_at c.args.site.now) (commit_start c.args.first c.args.count c.args.changes.now.entries (g.T.Site.image c.args.site.now) begins c.requires.exact) in
+    chain-told c0 (Torn c.place_of.result (length c.args.body.now)) (body_step c.args.first c.args.count c.args.changes.now.entries (g.T.Site.image c.args.site.now) begins c.place_of.result (length c.args.body.now) c.place_of.ensures) c.write_synced.ensures.told
 
 pub returns-in_err-write_synced-2-clause-stops : goal.returns-in_err-write_synced-2-clause-stops
 returns-in_err-write_synced-2-clause-stops g c =
-    let place_is = c.place_of.ensures in
-    let begins : (y : List ℕ) → g.T.Site.image c.args.site.now ≡ Some y → Begins c.args.first c.args.count c.args.changes.now y = λ y told.
-    let settled = c.requires.settled y told in
-    record { behind = c.requires.behind; whole = c.requires.whole; few = c.requires.few; small = c.ranges.count.fits; long = settled.long; closed = settled.closed } in
-    let exact = c.requires.exact in
-    let s1 = body_step c.args.first c.args.count c.args.changes.now (g.T.Site.image c.args.site.now) begins c.place_of.result (length c.args.body.now) place_is exact c.write_synced.ensures.stops in
-    let i1 : (y : List ℕ) → g.T.Site.image c.args.site.now ≡ Some y → g.T.Site.image c.write_synced.new.site ≡ Some (written (c.args.first + 4096 * c.args.count) (body_bytes c.args.changes.now) y) = λ y told.
-    body_is c.place_of.result (c.args.first + 4096 * c.args.count) c.args.body.now (body_bytes c.args.changes.now) (g.T.Site.image c.args.site.now) (g.T.Site.image c.write_synced.new.site) y place_is c.requires.body c.in_ok-write_synced.ensures.image told in
-    let s2 = gate_step c.args.first c.args.count c.args.changes.now (g.T.Site.image c.args.site.now) begins (g.T.Site.image c.write_synced.new.site) s1 exact c.in_ok-write_synced.ensures.exact i1 c.write_synced-2.ensures.stops in
-    s2
+    let begins = begins_with c.args.first c.args.count c.args.changes.now.entries (g.T.Site.image c.args.site.now) c.requires.behind c.requires.rise c.requires.some c.ranges.count.fits c.requires.settled in
+    let c0 = chain-start (g.T.Site.moment c.args.site.now) (g.T.Site.left_at c.args.site.now) (commit_start c.args.first c.args.count c.args.changes.now.entries (g.T.Site.image c.args.site.now) begins c.requires.exact) in
+    let c1 = chain-on c0 (Torn c.place_of.result (length c.args.body.now)) (body_step c.args.first c.args.count c.args.changes.now.entries (g.T.Site.image c.args.site.now) begins c.place_of.result (length c.args.body.now) c.place_of.ensures) (written (c.args.first + 4096 * c.args.count) (body_bytes c.args.changes.now.entries)) c.write_synced.ensures.told (body_is c.place_of.result (c.args.first + 4096 * c.args.count) c.args.body.now (body_bytes c.args.changes.now.entries) (g.T.Site.image c.args.site.now) (g.T.Site.image c.write_synced.new.site) c.place_of.ensures c.requires.body c.in_ok-write_synced.ensures.image) c.in_ok-write_synced.ensures.exact c.write_synced.ensures.stops in
+    chain-stops c1 (Torn 4096 1) (gate_step c.args.first c.args.count c.args.changes.now.entries (g.T.Site.image c.args.site.now) begins) c.write_synced-2.ensures.stops
 
-pub returns-in_err-write_blocks-clause-stops : goal.returns-in_err-write_blocks-clause-stops
-returns-in_err-write_blocks-clause-stops g c =
-    let place_is = c.place_of.ensures in
-    let begins : (y : List ℕ) → g.T.Site.image c.args.site.now ≡ Some y → Begins c.args.first c.args.count c.args.changes.now y = λ y told.
-    let settled = c.requires.settled y told in
-    record { behind = c.requires.behind; whole = c.requires.whole; few = c.requires.few; small = c.ranges.count.fits; long = settled.long; closed = settled.closed } in
-    let exact = c.requires.exact in
-    let s1 = body_step c.args.first c.args.count c.args.changes.now (g.T.Site.image c.args.site.now) begins c.place_of.result (length c.args.body.now) place_is exact c.write_synced.ensures.stops in
-    let i1 : (y : List ℕ) → g.T.Site.image c.args.site.now ≡ Some y → g.T.Site.image c.write_synced.new.site ≡ Some (written (c.args.first + 4096 * c.args.count) (body_bytes c.args.changes.now) y) = λ y told.
-    body_is c.place_of.result (c.args.first + 4096 * c.args.count) c.args.body.now (body_bytes c.args.changes.now) (g.T.Site.image c.args.site.now) (g.T.Site.image c.write_synced.new.site) y place_is c.requires.body c.in_ok-write_synced.ensures.image told in
-    let s2 = gate_step c.args.first c.args.count c.args.changes.now (g.T.Site.image c.args.site.now) begins (g.T.Site.image c.write_synced.new.site) s1 exact c.in_ok-write_synced.ensures.exact i1 c.write_synced-2.ensures.stops in
-    let i2 : (y : List ℕ) → g.T.Site.image c.args.site.now ≡ Some y → g.T.Site.image c.write_synced-2.new.site ≡ Some (written 4096 (1 ∷ []) (written (c.args.first + 4096 * c.args.count) (body_bytes c.args.changes.now) y)) = λ y told.
-    image_is (written 4096 (1 ∷ [])) (g.T.Site.image c.write_synced.new.site) (g.T.Site.image c.write_synced-2.new.site) (written (c.args.first + 4096 * c.args.count) (body_bytes c.args.changes.now) y) c.in_ok-write_synced-2.ensures.image (i1 y told) in
-    let s3 = blocks_step c.args.first c.args.count c.args.changes.now (g.T.Site.image c.args.site.now) begins (g.T.Site.image c.write_synced-2.new.site) s2 exact c.in_ok-write_synced-2.ensures.exact i2 c.write_blocks.ensures.stops in
-    s3
+pub returns-in_err-write_synced-2-clause-told : goal.returns-in_err-write_synced-2-clause-told
+returns-in_err-write_synced-2-clause-told g c =
+    let begins = begins_with c.args.first c.args.count c.args.changes.now.entries (g.T.Site.image c.args.site.now) c.requires.behind c.requires.rise c.requires.some c.ranges.count.fits c.requires.settled in
+    let c0 = chain-start (g.T.Site.moment c.args.site.now) (g.T.Site.left_at c.args.site.now) (commit_start c.args.first c.args.count c.args.changes.now.entries (g.T.Site.image c.args.site.now) begins c.requires.exact) in
+    let c1 = chain-on c0 (Torn c.place_of.result (length c.args.body.now)) (body_step c.args.first c.args.count c.args.changes.now.entries (g.T.Site.image c.args.site.now) begins c.place_of.result (length c.args.body.now) c.place_of.ensures) (written (c.args.first + 4096 * c.args.count) (body_bytes c.args.changes.now.entries)) c.write_synced.ensures.told (body_is c.place_of.result (c.args.first + 4096 * c.args.count) c.args.body.now (body_bytes c.args.changes.now.entries) (g.T.Site.image c.args.site.now) (g.T.Site.image c.write_synced.new.site) c.place_of.ensures c.requires.body c.in_ok-write_synced.ensures.image) c.in_ok-write_synced.ensures.exact c.write_synced.ensures.stops in
+    chain-told c1 (Torn 4096 1) (gate_step c.args.first c.args.count c.args.changes.now.entries (g.T.Site.image c.args.site.now) begins) c.write_synced-2.ensures.told
 
 pub returns-clause-stops : goal.returns-clause-stops
 returns-clause-stops g c =
-    let place_is = c.place_of.ensures in
-    let begins : (y : List ℕ) → g.T.Site.image c.args.site.now ≡ Some y → Begins c.args.first c.args.count c.args.changes.now y = λ y told.
-    let settled = c.requires.settled y told in
-    record { behind = c.requires.behind; whole = c.requires.whole; few = c.requires.few; small = c.ranges.count.fits; long = settled.long; closed = settled.closed } in
-    let exact = c.requires.exact in
-    let s1 = body_step c.args.first c.args.count c.args.changes.now (g.T.Site.image c.args.site.now) begins c.place_of.result (length c.args.body.now) place_is exact c.write_synced.ensures.stops in
-    let i1 : (y : List ℕ) → g.T.Site.image c.args.site.now ≡ Some y → g.T.Site.image c.write_synced.new.site ≡ Some (written (c.args.first + 4096 * c.args.count) (body_bytes c.args.changes.now) y) = λ y told.
-    body_is c.place_of.result (c.args.first + 4096 * c.args.count) c.args.body.now (body_bytes c.args.changes.now) (g.T.Site.image c.args.site.now) (g.T.Site.image c.write_synced.new.site) y place_is c.requires.body c.in_ok-write_synced.ensures.image told in
-    let s2 = gate_step c.args.first c.args.count c.args.changes.now (g.T.Site.image c.args.site.now) begins (g.T.Site.image c.write_synced.new.site) s1 exact c.in_ok-write_synced.ensures.exact i1 c.write_synced-2.ensures.stops in
-    let i2 : (y : List ℕ) → g.T.Site.image c.args.site.now ≡ Some y → g.T.Site.image c.write_synced-2.new.site ≡ Some (written 4096 (1 ∷ []) (written (c.args.first + 4096 * c.args.count) (body_bytes c.args.changes.now) y)) = λ y told.
-    image_is (written 4096 (1 ∷ [])) (g.T.Site.image c.write_synced.new.site) (g.T.Site.image c.write_synced-2.new.site) (written (c.args.first + 4096 * c.args.count) (body_bytes c.args.changes.now) y) c.in_ok-write_synced-2.ensures.image (i1 y told) in
-    let s3 = blocks_step c.args.first c.args.count c.args.changes.now (g.T.Site.image c.args.site.now) begins (g.T.Site.image c.write_synced-2.new.site) s2 exact c.in_ok-write_synced-2.ensures.exact i2 c.write_blocks.ensures.stops in
-    let i3 : (y : List ℕ) → g.T.Site.image c.args.site.now ≡ Some y → g.T.Site.image c.write_blocks.new.site ≡ Some (put_image c.args.first c.args.changes.now (written 4096 (1 ∷ []) (written (c.args.first + 4096 * c.args.count) (body_bytes c.args.changes.now) y))) = λ y told.
-    image_is (put_image c.args.first c.args.changes.now) (g.T.Site.image c.write_synced-2.new.site) (g.T.Site.image c.write_blocks.new.site) (written 4096 (1 ∷ []) (written (c.args.first + 4096 * c.args.count) (body_bytes c.args.changes.now) y)) c.in_ok-write_blocks.ensures.image (i2 y told) in
-    let s4 = closing_step c.args.first c.args.count c.args.changes.now (g.T.Site.image c.args.site.now) begins (g.T.Site.image c.write_blocks.new.site) s3 exact c.in_ok-write_blocks.ensures.exact i3 c.write_synced-3.ensures.stops in
-    s4
+    let begins = begins_with c.args.first c.args.count c.args.changes.now.entries (g.T.Site.image c.args.site.now) c.requires.behind c.requires.rise c.requires.some c.ranges.count.fits c.requires.settled in
+    let c0 = chain-start (g.T.Site.moment c.args.site.now) (g.T.Site.left_at c.args.site.now) (commit_start c.args.first c.args.count c.args.changes.now.entries (g.T.Site.image c.args.site.now) begins c.requires.exact) in
+    let c1 = chain-on c0 (Torn c.place_of.result (length c.args.body.now)) (body_step c.args.first c.args.count c.args.changes.now.entries (g.T.Site.image c.args.site.now) begins c.place_of.result (length c.args.body.now) c.place_of.ensures) (written (c.args.first + 4096 * c.args.count) (body_bytes c.args.changes.now.entries)) c.write_synced.ensures.told (body_is c.place_of.result (c.args.first + 4096 * c.args.count) c.args.body.now (body_bytes c.args.changes.now.entries) (g.T.Site.image c.args.site.now) (g.T.Site.image c.write_synced.new.site) c.place_of.ensures c.requires.body c.in_ok-write_synced.ensures.image) c.in_ok-write_synced.ensures.exact c.write_synced.ensures.stops in
+    let c2 = chain-on c1 (Torn 4096 1) (gate_step c.args.first c.args.count c.args.changes.now.entries (g.T.Site.image c.args.site.now) begins) (written 4096 (1 ∷ [])) c.write_synced-2.ensures.told c.in_ok-write_synced-2.ensures.image c.in_ok-write_synced-2.ensures.exact c.write_synced-2.ensures.stops in
+    chain-made c2 (RedoMakes c.args.first c.args.count) (redo_step c.args.first c.args.count c.args.changes.now.entries (g.T.Site.image c.args.site.now) begins) c.redo_changes.ensures.stops
+
+pub returns-clause-told : goal.returns-clause-told
+returns-clause-told g c =
+    let begins = begins_with c.args.first c.args.count c.args.changes.now.entries (g.T.Site.image c.args.site.now) c.requires.behind c.requires.rise c.requires.some c.ranges.count.fits c.requires.settled in
+    let c0 = chain-start (g.T.Site.moment c.args.site.now) (g.T.Site.left_at c.args.site.now) (commit_start c.args.first c.args.count c.args.changes.now.entries (g.T.Site.image c.args.site.now) begins c.requires.exact) in
+    let c1 = chain-on c0 (Torn c.place_of.result (length c.args.body.now)) (body_step c.args.first c.args.count c.args.changes.now.entries (g.T.Site.image c.args.site.now) begins c.place_of.result (length c.args.body.now) c.place_of.ensures) (written (c.args.first + 4096 * c.args.count) (body_bytes c.args.changes.now.entries)) c.write_synced.ensures.told (body_is c.place_of.result (c.args.first + 4096 * c.args.count) c.args.body.now (body_bytes c.args.changes.now.entries) (g.T.Site.image c.args.site.now) (g.T.Site.image c.write_synced.new.site) c.place_of.ensures c.requires.body c.in_ok-write_synced.ensures.image) c.in_ok-write_synced.ensures.exact c.write_synced.ensures.stops in
+    let c2 = chain-on c1 (Torn 4096 1) (gate_step c.args.first c.args.count c.args.changes.now.entries (g.T.Site.image c.args.site.now) begins) (written 4096 (1 ∷ [])) c.write_synced-2.ensures.told c.in_ok-write_synced-2.ensures.image c.in_ok-write_synced-2.ensures.exact c.write_synced-2.ensures.stops in
+    chain-told c2 (RedoMakes c.args.first c.args.count) (redo_step c.args.first c.args.count c.args.changes.now.entries (g.T.Site.image c.args.site.now) begins) c.redo_changes.ensures.told
 
 pub returns-in_err-write_synced-clause-room : goal.returns-in_err-write_synced-clause-room
-returns-in_err-write_synced-clause-room g c =
-    let long : length c.args.body.now ≡ 8 + 4100 * length c.args.changes.now = ap length c.requires.body ∙ length-body c.args.count c.args.changes.now c.requires.whole in
-    let r1 = room-larger c.write_synced.ensures.room (room_body c.args.first c.args.count c.place_of.result (length c.args.body.now) (length c.args.changes.now) c.place_of.ensures long c.requires.few) in
-    r1
+returns-in_err-write_synced-clause-room g c = room-larger c.write_synced.ensures.room (room_body c.args.first c.args.count c.place_of.result c.args.changes.now.entries c.args.body.now c.place_of.ensures c.requires.rise c.requires.body)
 
 pub returns-in_err-write_synced-2-clause-room : goal.returns-in_err-write_synced-2-clause-room
-returns-in_err-write_synced-2-clause-room g c =
-    let long : length c.args.body.now ≡ 8 + 4100 * length c.args.changes.now = ap length c.requires.body ∙ length-body c.args.count c.args.changes.now c.requires.whole in
-    let r1 = room-larger c.write_synced.ensures.room (room_body c.args.first c.args.count c.place_of.result (length c.args.body.now) (length c.args.changes.now) c.place_of.ensures long c.requires.few) in
-    let r2 = room-then r1 c.write_synced-2.ensures.room (room_gate c.args.first c.args.count) in
-    r2
-
-pub returns-in_err-write_blocks-clause-room : goal.returns-in_err-write_blocks-clause-room
-returns-in_err-write_blocks-clause-room g c =
-    let long : length c.args.body.now ≡ 8 + 4100 * length c.args.changes.now = ap length c.requires.body ∙ length-body c.args.count c.args.changes.now c.requires.whole in
-    let r1 = room-larger c.write_synced.ensures.room (room_body c.args.first c.args.count c.place_of.result (length c.args.body.now) (length c.args.changes.now) c.place_of.ensures long c.requires.few) in
-    let r2 = room-then r1 c.write_synced-2.ensures.room (room_gate c.args.first c.args.count) in
-    let r3 = room-then r2 c.write_blocks.ensures.room (room_blocks c.args.first c.args.count) in
-    r3
+returns-in_err-write_synced-2-clause-room g c = room-then (room-larger c.write_synced.ensures.room (room_body c.args.first c.args.count c.place_of.result c.args.changes.now.entries c.args.body.now c.place_of.ensures c.requires.rise c.requires.body)) c.write_synced-2.ensures.room (room_gate c.args.first c.args.count)
 
 pub returns-clause-room : goal.returns-clause-room
-returns-clause-room g c =
-    let long : length c.args.body.now ≡ 8 + 4100 * length c.args.changes.now = ap length c.requires.body ∙ length-body c.args.count c.args.changes.now c.requires.whole in
-    let r1 = room-larger c.write_synced.ensures.room (room_body c.args.first c.args.count c.place_of.result (length c.args.body.now) (length c.args.changes.now) c.place_of.ensures long c.requires.few) in
-    let r2 = room-then r1 c.write_synced-2.ensures.room (room_gate c.args.first c.args.count) in
-    let r3 = room-then r2 c.write_blocks.ensures.room (room_blocks c.args.first c.args.count) in
-    let r4 = room-then r3 c.write_synced-3.ensures.room (room_gate c.args.first c.args.count) in
-    r4
+returns-clause-room g c = room-then (room-then (room-larger c.write_synced.ensures.room (room_body c.args.first c.args.count c.place_of.result c.args.changes.now.entries c.args.body.now c.place_of.ensures c.requires.rise c.requires.body)) c.write_synced-2.ensures.room (room_gate c.args.first c.args.count)) c.redo_changes.ensures.room (omega arith)
 
 pub returns-clause-done : goal.returns-clause-done
 returns-clause-done g c =
-    let place_is = c.place_of.ensures in
-    let begins : (y : List ℕ) → g.T.Site.image c.args.site.now ≡ Some y → Begins c.args.first c.args.count c.args.changes.now y = λ y told.
-    let settled = c.requires.settled y told in
-    record { behind = c.requires.behind; whole = c.requires.whole; few = c.requires.few; small = c.ranges.count.fits; long = settled.long; closed = settled.closed } in
-    let exact = c.requires.exact in
-    let i1 : (y : List ℕ) → g.T.Site.image c.args.site.now ≡ Some y → g.T.Site.image c.write_synced.new.site ≡ Some (written (c.args.first + 4096 * c.args.count) (body_bytes c.args.changes.now) y) = λ y told.
-    body_is c.place_of.result (c.args.first + 4096 * c.args.count) c.args.body.now (body_bytes c.args.changes.now) (g.T.Site.image c.args.site.now) (g.T.Site.image c.write_synced.new.site) y place_is c.requires.body c.in_ok-write_synced.ensures.image told in
-    let i2 : (y : List ℕ) → g.T.Site.image c.args.site.now ≡ Some y → g.T.Site.image c.write_synced-2.new.site ≡ Some (written 4096 (1 ∷ []) (written (c.args.first + 4096 * c.args.count) (body_bytes c.args.changes.now) y)) = λ y told.
-    image_is (written 4096 (1 ∷ [])) (g.T.Site.image c.write_synced.new.site) (g.T.Site.image c.write_synced-2.new.site) (written (c.args.first + 4096 * c.args.count) (body_bytes c.args.changes.now) y) c.in_ok-write_synced-2.ensures.image (i1 y told) in
-    let i3 : (y : List ℕ) → g.T.Site.image c.args.site.now ≡ Some y → g.T.Site.image c.write_blocks.new.site ≡ Some (put_image c.args.first c.args.changes.now (written 4096 (1 ∷ []) (written (c.args.first + 4096 * c.args.count) (body_bytes c.args.changes.now) y))) = λ y told.
-    image_is (put_image c.args.first c.args.changes.now) (g.T.Site.image c.write_synced-2.new.site) (g.T.Site.image c.write_blocks.new.site) (written 4096 (1 ∷ []) (written (c.args.first + 4096 * c.args.count) (body_bytes c.args.changes.now) y)) c.in_ok-write_blocks.ensures.image (i2 y told) in
-    if_ok c.write_synced-3.result c.write_synced-3.ensures.image (λ done last. commit_done c.args.first c.args.count c.args.changes.now (g.T.Site.image c.args.site.now) begins (g.T.Site.image c.write_synced-3.new.site) (λ y told.
-    image_is (written 4096 (0 ∷ [])) (g.T.Site.image c.write_blocks.new.site) (g.T.Site.image c.write_synced-3.new.site) (put_image c.args.first c.args.changes.now (written 4096 (1 ∷ []) (written (c.args.first + 4096 * c.args.count) (body_bytes c.args.changes.now) y))) last (i3 y told)))
+    let begins = begins_with c.args.first c.args.count c.args.changes.now.entries (g.T.Site.image c.args.site.now) c.requires.behind c.requires.rise c.requires.some c.ranges.count.fits c.requires.settled in
+    let c0 = chain-start (g.T.Site.moment c.args.site.now) (g.T.Site.left_at c.args.site.now) (commit_start c.args.first c.args.count c.args.changes.now.entries (g.T.Site.image c.args.site.now) begins c.requires.exact) in
+    let c1 = chain-on c0 (Torn c.place_of.result (length c.args.body.now)) (body_step c.args.first c.args.count c.args.changes.now.entries (g.T.Site.image c.args.site.now) begins c.place_of.result (length c.args.body.now) c.place_of.ensures) (written (c.args.first + 4096 * c.args.count) (body_bytes c.args.changes.now.entries)) c.write_synced.ensures.told (body_is c.place_of.result (c.args.first + 4096 * c.args.count) c.args.body.now (body_bytes c.args.changes.now.entries) (g.T.Site.image c.args.site.now) (g.T.Site.image c.write_synced.new.site) c.place_of.ensures c.requires.body c.in_ok-write_synced.ensures.image) c.in_ok-write_synced.ensures.exact c.write_synced.ensures.stops in
+    let c2 = chain-on c1 (Torn 4096 1) (gate_step c.args.first c.args.count c.args.changes.now.entries (g.T.Site.image c.args.site.now) begins) (written 4096 (1 ∷ [])) c.write_synced-2.ensures.told c.in_ok-write_synced-2.ensures.image c.in_ok-write_synced-2.ensures.exact c.write_synced-2.ensures.stops in
+    if_ok c.redo_changes.result c.redo_changes.ensures.done (λ done redo. commit_done c.args.first c.args.count c.args.changes.now.entries (g.T.Site.image c.args.site.now) begins (g.T.Site.image c.write_synced-2.new.site) (g.T.Site.image c.redo_changes.new.site) c2.is redo)

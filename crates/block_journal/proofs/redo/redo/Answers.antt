@@ -1,27 +1,32 @@
-use Rattle.std.proofs.Common.{sym, subst, List}
-use Rattle.block_journal.specs.declared.change.Change.{Change}
-use Rattle.block_journal.specs.Placing.{AreWhole}
-use Rattle.block_journal.specs.Reads.{ReadsBody}
 use Rattle.block_journal.proofs.Calls.{exact-stays}
-use Rattle.block_journal.proofs.OpeningSteps.{redo_waits, redo_after, read_to_redo}
-use Rattle.block_journal.proofs.Rising.{are_whole}
+use Rattle.block_journal.proofs.Made.{made-waits, made-later, became-later}
+use Rattle.block_journal.proofs.OpeningSteps.{redo_start, redo_waits, read_to_redo}
 use Rattle.block_journal.proofs.redo.redo.Goals as goal
+use Rattle.block_journal.specs.JournalLaw.{are_whole}
 
 pub returns-in_err-changes-clause-stops : goal.returns-in_err-changes-clause-stops
-returns-in_err-changes-clause-stops g c = redo_waits (g.T.Site.image c.args.site.now) c.args.first c.args.count c.requires.exact c.read_body.ensures.stops
+returns-in_err-changes-clause-stops g c = made-waits (redo_start c.args.first c.args.count c.requires.exact) c.read_body.ensures.stops
 
 pub redo_changes-requires-clause-whole : goal.redo_changes-requires-clause-whole
-redo_changes-requires-clause-whole g c = subst (λ (l : List Change). AreWhole c.args.count l) (sym c.deref.ensures.value) (are_whole 0 c.args.count c.in_ok-changes.changes.items c.in_ok-changes.ensures.rise)
+redo_changes-requires-clause-whole g c = are_whole 0 c.args.count c.in_ok-changes.changes.entries c.in_ok-changes.ensures.rise
 
 pub redo_changes-requires-clause-redo : goal.redo_changes-requires-clause-redo
-redo_changes-requires-clause-redo g c = read_to_redo c.args.first c.args.count c.deref.result.now (g.T.Site.image c.args.site.now) (g.T.Site.image c.read_body.new.site)
-    (subst (λ (l : List Change). ReadsBody c.args.first c.args.count (g.T.Site.image c.args.site.now) l) (sym c.deref.ensures.value) c.in_ok-changes.ensures.body) c.requires.opened c.read_body.ensures.image
+redo_changes-requires-clause-redo g c = read_to_redo c.args.first c.args.count c.in_ok-changes.changes.entries (g.T.Site.image c.args.site.now) (g.T.Site.image c.read_body.new.site) c.in_ok-changes.ensures.body c.requires.opened c.read_body.ensures.image
 
 pub redo_changes-requires-clause-exact : goal.redo_changes-requires-clause-exact
 redo_changes-requires-clause-exact g c = exact-stays c.read_body.ensures.image c.requires.exact c.read_body.ensures.stops
 
 pub returns-in_err-redo_changes-clause-stops : goal.returns-in_err-redo_changes-clause-stops
-returns-in_err-redo_changes-clause-stops g c = redo_after (g.T.Site.image c.args.site.now) (g.T.Site.image c.read_body.new.site) c.args.first c.args.count c.read_body.ensures.image c.requires.exact c.read_body.ensures.stops c.redo_changes.ensures.stops
+returns-in_err-redo_changes-clause-stops g c = made-later (redo_start c.args.first c.args.count c.requires.exact) c.read_body.ensures.image c.read_body.ensures.stops c.redo_changes.ensures.stops
 
 pub returns-clause-stops : goal.returns-clause-stops
-returns-clause-stops g c = redo_after (g.T.Site.image c.args.site.now) (g.T.Site.image c.read_body.new.site) c.args.first c.args.count c.read_body.ensures.image c.requires.exact c.read_body.ensures.stops c.redo_changes.ensures.stops
+returns-clause-stops g c = made-later (redo_start c.args.first c.args.count c.requires.exact) c.read_body.ensures.image c.read_body.ensures.stops c.redo_changes.ensures.stops
+
+pub returns-in_err-changes-clause-told : goal.returns-in_err-changes-clause-told
+returns-in_err-changes-clause-told g c = redo_waits c.args.first c.args.count c.read_body.ensures.image
+
+pub returns-in_err-redo_changes-clause-told : goal.returns-in_err-redo_changes-clause-told
+returns-in_err-redo_changes-clause-told g c = became-later c.read_body.ensures.image c.redo_changes.ensures.told
+
+pub returns-clause-told : goal.returns-clause-told
+returns-clause-told g c = became-later c.read_body.ensures.image c.redo_changes.ensures.told

@@ -1,25 +1,20 @@
-use Rattle.std.proofs.Common.{◌≡◌, ◌∙◌, ◌<◌, Some, List, ℕ, [], length, get_or, ap, arith}
+use Rattle.std.proofs.Common.{◌∙◌, Some, List, ℕ, [], length, ap, arith, rules}
 use Rattle.std.proofs.lemmas.Option.{slice_get-get_or}
-use Rattle.block_journal.specs.declared.change.Change.{Change}
 use Rattle.block_journal.specs.Redo.{put_all}
-use Rattle.block_journal.proofs.Changes.{length-put_all}
-use Rattle.block_journal.proofs.Place.{get_change, get_block}
+use Rattle.block_journal.specs.JournalLaw.{length-put_all}
+use Rattle.block_journal.proofs.Rising.{changed_block, unchanged_block}
 use Rattle.block_journal.proofs.staged.copy_block.Goals as goal
-use Rattle.block_journal.proofs.staged.copy_block.Goals.{else-at-changes-via-then-at-changes+else-changes-at, else-at-changes-via-else-at-changes}
 
-abbrev none : Change
-none = record { number = 0; content = [] }
-
-pub returns-then-changes-at : goal.returns-then-changes-at
-returns-then-changes-at c =
+pub returns-in-Some : goal.returns-in-Some
+returns-in-Some c =
     let blocks : List (List ℕ) = c.args.blocks.now in
-    slice_get-get_or (put_all c.args.changes.now blocks) c.args.number [] (omega (arith, length-put_all c.args.changes.now blocks, c.requires.below))
-    ∙ ap Some (get_change 0 (length blocks) c.args.number c.place-at.result c.args.changes.now blocks none c.requires.rise c.requires.below c.place-at.ensures.place c.if-at-changes.true c.if-changes-at.true)
+    let cs = c.args.changes.now.entries in
+    slice_get-get_or (put_all cs blocks) c.args.number [] (omega (arith, length-put_all cs blocks, c.requires.below))
+    ∙ ap Some (changed_block c.args.number c.in-Some.block.now 0 (length blocks) cs blocks c.requires.rise c.requires.below (search rules))
 
-pub returns-else-at-changes : goal.returns-else-at-changes
-returns-else-at-changes c =
+pub returns-in-None : goal.returns-in-None
+returns-in-None c =
     let blocks : List (List ℕ) = c.args.blocks.now in
-    let differs : c.place-at.result < length c.args.changes.now → (get_or c.args.changes.now c.place-at.result none).number ≡ c.args.number → ⊥ =
-    elim c.else-at-changes.branch [ else-at-changes-via-then-at-changes+else-changes-at w ↦ (λ lt is. w.if-changes-at.false is) | else-at-changes-via-else-at-changes w ↦ (λ lt is. absurd (omega (arith, lt, w.if-at-changes.false))) ] in
-    slice_get-get_or (put_all c.args.changes.now blocks) c.args.number [] (omega (arith, length-put_all c.args.changes.now blocks, c.requires.below))
-    ∙ ap Some (get_block 0 (length blocks) c.args.number c.place-at.result c.args.changes.now blocks none c.requires.rise c.place-at.ensures.place differs)
+    let cs = c.args.changes.now.entries in
+    slice_get-get_or (put_all cs blocks) c.args.number [] (omega (arith, length-put_all cs blocks, c.requires.below))
+    ∙ ap Some (unchanged_block c.args.number cs blocks (search rules))

@@ -1,28 +1,38 @@
-use Rattle.std.proofs.Common.{◌∙◌, List, ℕ, [], length, get_or, set, take, ap, sym, arith}
-use Rattle.std.proofs.lemmas.List.{take_more}
-use Rattle.block_journal.specs.declared.change.Change.{Change}
+use Rattle.std.proofs.Common.{◌≡◌, ◌∷◌, ◌∙◌, List, length, refl, sym, ap, subst, arith}
+use Rattle.std.proofs.lemmas.List.{length-set}
+use Rattle.std.proofs.lemmas.Map.Iter.{rest_more, rest_all}
+use Rattle.std.specs.Map.Iter.{deref_pair}
+use Rattle.block_journal.specs.Change.{Change}
+use Rattle.block_journal.specs.JournalLaw.{put_all-none}
+use Rattle.block_journal.specs.Placing.{AreWhole}
 use Rattle.block_journal.specs.Redo.{put_all}
-use Rattle.block_journal.proofs.Changes.{length-put_all, put_all-more, put_all-none}
-use Rattle.block_journal.proofs.Placing.{whole_one}
-use Rattle.block_journal.proofs.Rising.{are_whole}
+use Rattle.block_journal.proofs.Changes.{put_all-next}
 use Rattle.block_journal.proofs.staged.make_changes.Goals as goal
 
-abbrev none : Change
-none = record { number = 0; content = [] }
-
-pub loop-change-init : goal.loop-change-init
-loop-change-init c = sym (put_all-none c.args.blocks.now.items)
+pub loop-number-init : goal.loop-number-init
+loop-number-init c =
+    let start = c.into_iter-number-iterator.ensures.into_iter_gives.0 in
+    record {
+      made = ap (λ (l : List Change). put_all l c.args.blocks.now.items) start;
+      whole = subst (λ (l : List Change). AreWhole (length c.args.blocks.now.items) l) (sym start) c.requires;
+      many = refl;
+    }
 
 pub index_mut-requires : goal.index_mut-requires
 index_mut-requires c =
-    let k = c.loop-change.change-index in
-    let whole = whole_one (length c.args.blocks.now.items) c.args.changes.now k none (are_whole 0 (length c.args.blocks.now.items) c.args.changes.now c.requires) c.loop-change-test.true in
-    omega (arith, whole.0, ap length c.loop-change.invariant, length-put_all (take k c.args.changes.now) c.args.blocks.now.items)
+    let turn : c.loop-number.number-iterator ≡ (c.in-Some.number.now, c.in-Some.block.now) ∷ c.next.new.self = rest_more deref_pair c.loop-number.number-iterator c.next.new.self c.next.result (c.in-Some.number, c.in-Some.block) c.in-Some.is c.next.ensures.steps in
+    let whole : AreWhole (length c.args.blocks.now.items) ((c.in-Some.number.now, c.in-Some.block.now) ∷ c.next.new.self) = subst (λ (l : List Change). AreWhole (length c.args.blocks.now.items) l) turn c.loop-number.invariant.whole in
+    omega (arith, whole.0, c.loop-number.invariant.many)
 
-pub loop-change-preserved : goal.loop-change-preserved
-loop-change-preserved c =
-    let k = c.loop-change.change-index in
-    let change = get_or c.args.changes.now k none in
-    ap (λ (l : List (List ℕ)). set l change.number change.content) c.loop-change.invariant
-    ∙ sym (put_all-more (take k c.args.changes.now) change c.args.blocks.now.items)
-    ∙ ap (λ (l : List Change). put_all l c.args.blocks.now.items) (sym (take_more c.args.changes.now k none c.loop-change-test.true))
+pub loop-number-preserved : goal.loop-number-preserved
+loop-number-preserved c =
+    let turn : c.loop-number.number-iterator ≡ (c.in-Some.number.now, c.in-Some.block.now) ∷ c.next.new.self = rest_more deref_pair c.loop-number.number-iterator c.next.new.self c.next.result (c.in-Some.number, c.in-Some.block) c.in-Some.is c.next.ensures.steps in
+    let whole : AreWhole (length c.args.blocks.now.items) ((c.in-Some.number.now, c.in-Some.block.now) ∷ c.next.new.self) = subst (λ (l : List Change). AreWhole (length c.args.blocks.now.items) l) turn c.loop-number.invariant.whole in
+    record {
+      made = put_all-next c.loop-number.number-iterator c.next.new.self (c.in-Some.number.now, c.in-Some.block.now) c.loop-number.blocks.items turn ∙ c.loop-number.invariant.made;
+      whole = whole.2;
+      many = length-set c.loop-number.blocks.items c.in-Some.number.now c.in-Some.block.now ∙ c.loop-number.invariant.many;
+    }
+
+pub returns : goal.returns
+returns c = sym (ap (λ (l : List Change). put_all l c.loop-number.blocks.items) (rest_all deref_pair c.loop-number.number-iterator c.next.new.self c.next.result c.in-None.is c.next.ensures.steps) ∙ put_all-none c.loop-number.blocks.items) ∙ c.loop-number.invariant.made

@@ -1,6 +1,7 @@
 use Rattle.std.proofs.Common.{◌∙◌}
 use Rattle.block_journal.proofs.OpeningSteps.{opened_list}
-use Rattle.block_journal.proofs.Standing.{none_rise, none_list, stands_exactly}
+use Rattle.block_journal.proofs.Standing.{none_rise}
+use Rattle.block_journal.specs.JournalLaw.{none_list}
 use Rattle.block_journal.proofs.journal.Journal.open.Goals as goal
 
 pub invariant_of-result : goal.invariant_of-result
@@ -9,7 +10,7 @@ invariant_of-result g c = record {
   near = c.requires.near;
   counted = c.in-Ok.ensures.count;
   whole = c.in-Ok.ensures.whole;
-  rise = none_rise c.args.count c.new.result.items c.new.ensures.items;
+  rise = none_rise c.args.count c.new.result.entries c.new.ensures.empty;
   stands = λ live. c.in-Ok.ensures.stands;
 }
 
@@ -18,8 +19,5 @@ returns-in-Ok-clause-committed g c = opened_list c.args.first c.args.count c.in-
 
 pub returns-in-Ok-clause-list : goal.returns-in-Ok-clause-list
 returns-in-Ok-clause-list g c =
-    none_list (g.T.Site.image c.load.new.site) c.new.result.items c.in-Ok.kept.items c.new.ensures.items
+    none_list (g.T.Site.image c.load.new.site) c.new.result.entries c.in-Ok.kept.items c.new.ensures.empty
     ∙ opened_list c.args.first c.args.count c.in-Ok.kept.items (g.T.Site.image c.args.site) (g.T.Site.image c.load.new.site) (g.T.Site.left_at c.load.new.site (g.T.Site.moment c.load.new.site)) c.load.ensures.told c.in-Ok.ensures.redone c.in-Ok.ensures.stands
-
-pub returns-in-Ok-clause-exactly : goal.returns-in-Ok-clause-exactly
-returns-in-Ok-clause-exactly g c = stands_exactly c.args.first c.args.count (g.T.Site.moment c.load.new.site) c.in-Ok.kept.items (g.T.Site.image c.load.new.site) (g.T.Site.said c.load.new.site) (g.T.Site.left_at c.load.new.site) c.in-Ok.ensures.stands (λ x s left. g.met.T.Site.said_now c.load.new.site x s left)

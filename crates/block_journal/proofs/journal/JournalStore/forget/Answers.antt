@@ -1,4 +1,11 @@
-use Rattle.block_journal.proofs.Standing.{stands_exactly, none_rise, none_list}
+use Rattle.std.proofs.Common.{◌==◌, List, length, refl, ap, arith}
+use Rattle.hal_base.proofs.StoreLemmas.{say_room_none}
+use Rattle.hal_base.proofs.StopLemmas.{not_yet}
+use Rattle.block_journal.specs.Change.{Change}
+use Rattle.block_journal.specs.Commit.{last_byte}
+use Rattle.block_journal.specs.Stands.{say_room}
+use Rattle.block_journal.specs.JournalLaw.{none_list}
+use Rattle.block_journal.proofs.Standing.{none_rise}
 use Rattle.block_journal.proofs.journal.JournalStore.forget.Goals as goal
 
 pub invariant_of-self : goal.invariant_of-self
@@ -7,12 +14,25 @@ invariant_of-self g c = record {
   near = c.args.self.now.near;
   counted = c.args.self.now.counted;
   whole = c.args.self.now.whole;
-  rise = none_rise c.args.self.now.count c.clear.new.self.items c.clear.ensures.items;
+  rise = none_rise c.args.self.now.count c.clear.new.self.entries c.clear.ensures.empty;
   stands = c.args.self.now.stands;
 }
 
-pub returns-clause-list : goal.returns-clause-list
-returns-clause-list g c = none_list (g.T.Site.image c.args.self.now.site) c.clear.new.self.items c.args.self.now.kept.items c.clear.ensures.items
-
-pub returns-clause-exactly : goal.returns-clause-exactly
-returns-clause-exactly g c = stands_exactly c.args.self.now.first c.args.self.now.count (g.T.Site.moment c.args.self.now.site) c.args.self.now.kept.items (g.T.Site.image c.args.self.now.site) (g.T.Site.said c.args.self.now.site) (g.T.Site.left_at c.args.self.now.site) (c.args.self.now.stands c.requires) (λ x s left. g.met.T.Site.said_now c.args.self.now.site x s left)
+pub returns-clause-forgets : goal.returns-clause-forgets
+returns-clause-forgets g c = record {
+  list = none_list (g.T.Site.image c.args.self.now.site) c.clear.new.self.entries c.args.self.now.kept.items c.clear.ensures.empty;
+  cleaned = ap (λ (l : List Change). length l == 0) c.clear.ensures.empty;
+  same = record {
+    number = refl;
+    committed = refl;
+    standing = refl;
+    said = refl;
+    stops = not_yet (g.T.Site.moment c.args.self.now.site) _ _;
+    say_faults = refl;
+    room = say_room_none (say_room (last_byte c.args.self.now.first c.args.self.now.count) (g.T.Site.room c.args.self.now.site)) (g.T.Site.disk_faults c.args.self.now.site) _;
+    fetches = omega arith;
+  };
+  no_call = record { moment = refl; stops = not_yet (g.T.Site.moment c.args.self.now.site) _ _; disk_faults = refl };
+  fetches = refl;
+  live = c.requires;
+}
