@@ -1,0 +1,9 @@
+pub mod Lists
+pub mod Carried
+pub mod Names
+pub mod Parents
+pub mod Place
+pub mod NewRow
+pub mod Order
+pub mod Entries
+pub mod InsertionKeeps

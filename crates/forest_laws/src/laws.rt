@@ -1,0 +1,12 @@
+ghost use Rattle.forest_laws.specs.Laws.{InsertionKeeps};
+
+use hal_schema::schemas_are_kept;
+use partition_select::root_order_is_total;
+
+/// Inserting a row that may be inserted keeps a forest.
+pub fn insertion_keeps()
+    ensures { InsertionKeeps }
+{
+    schemas_are_kept();
+    root_order_is_total();
+}

@@ -1,0 +1,7 @@
+//! Laws of forests: what the definitions of `hal_schema` say of every schema and every list of rows. Each law is
+//! the contract of a function without code.
+#![tactic(auto)]
+
+mod laws;
+
+pub use laws::insertion_keeps;
