@@ -7,3 +7,4 @@ pub mod NewRow
 pub mod Order
 pub mod Entries
 pub mod InsertionKeeps
+pub mod CutKeeps

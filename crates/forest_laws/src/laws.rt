@@ -1,4 +1,4 @@
-ghost use Rattle.forest_laws.specs.Laws.{InsertionKeeps};
+ghost use Rattle.forest_laws.specs.Laws.{CutKeeps, InsertionKeeps};
 
 use hal_schema::schemas_are_kept;
 use partition_select::root_order_is_total;
@@ -10,3 +10,8 @@ pub fn insertion_keeps()
     schemas_are_kept();
     root_order_is_total();
 }
+
+/// Cutting a span out keeps a forest.
+pub fn cut_keeps()
+    ensures { CutKeeps }
+{}
