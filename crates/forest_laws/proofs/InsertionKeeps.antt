@@ -29,7 +29,7 @@ use Rattle.forest_laws.proofs.Order.{Around, types_with, twins_with}
 use Rattle.forest_laws.proofs.Entries.{bytes_turned, pairs_in_order, untaken, entries_append, Adds, adds, own_key, entry_has_key, is_source}
 use Rattle.forest_laws.proofs.Entries.Adds.{Nothing, One}
 
-none_passes : {X : Type 0} (p : X → Bool) (xs : List X) → is_none (find p xs) ≡ true → list_all (λ x. not (p x)) xs ≡ true
+pub none_passes : {X : Type 0} (p : X → Bool) (xs : List X) → is_none (find p xs) ≡ true → list_all (λ x. not (p x)) xs ≡ true
 none_passes p [] h = refl
 none_passes {X} p (x ∷ xs) h = by (p x) refl h (none_passes p xs)
   where

@@ -8,3 +8,5 @@ pub mod Order
 pub mod Entries
 pub mod InsertionKeeps
 pub mod CutKeeps
+pub mod Replacing
+pub mod ReplacementKeeps

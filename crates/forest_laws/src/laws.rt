@@ -1,4 +1,4 @@
-ghost use Rattle.forest_laws.specs.Laws.{CutKeeps, InsertionKeeps};
+ghost use Rattle.forest_laws.specs.Laws.{CutKeeps, InsertionKeeps, ReplacementKeeps};
 
 use hal_schema::schemas_are_kept;
 use partition_select::root_order_is_total;
@@ -14,4 +14,9 @@ pub fn insertion_keeps()
 /// Cutting a span out keeps a forest.
 pub fn cut_keeps()
     ensures { CutKeeps }
+{}
+
+/// Replacing a row's content by one that may replace it keeps a forest.
+pub fn replacement_keeps()
+    ensures { ReplacementKeeps }
 {}

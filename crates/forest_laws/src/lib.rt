@@ -4,4 +4,4 @@
 
 mod laws;
 
-pub use laws::{cut_keeps, insertion_keeps};
+pub use laws::{cut_keeps, insertion_keeps, replacement_keeps};
