@@ -13,7 +13,7 @@ use Rattle.hal_schema.specs.Paths.{path_with, path_after, with_paths, paths_of}
 use Rattle.hal_schema.specs.Span.{is_deeper, span_of, without_span}
 use Rattle.hal_schema.specs.Entry.{Entry, entries_by_row}
 use Rattle.hal_schema.specs.Forest.{all_pairs, names_apart, has_length, is_path, is_selected, in_type_order, in_twin_order, keys_apart, entries_differ, is_forest}
-use Rattle.forest_laws.specs.Laws.{CutKeeps}
+use Rattle.forest_laws.specs.Keeping.{CutKeeps}
 use Rattle.forest_laws.proofs.Lists.{Front, front_of, drop_front, all_weaker, all_without, pairs_without}
 use Rattle.forest_laws.proofs.Carried.{not_above, is_above, starts_above, with_append, passed_over}
 use Rattle.forest_laws.proofs.Parents.{Parts, parts_of, forest_from}

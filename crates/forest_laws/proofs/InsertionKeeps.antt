@@ -18,7 +18,7 @@ use Rattle.hal_schema.specs.Entry.{Entry, entry_key, entries_of, entries_by_row,
 use Rattle.hal_schema.specs.Forest.{all_pairs, names_apart, has_length, is_path, is_selected, in_type_order, in_twin_order, keys_apart, entries_differ, is_forest}
 use Rattle.hal_schema.specs.Insertion.{new_path, enters_freely, inserted, may_be_inserted}
 use Rattle.hal_schema.specs.Facts.{SchemasAreKept}
-use Rattle.forest_laws.specs.Laws.{InsertionKeeps}
+use Rattle.forest_laws.specs.Keeping.{InsertionKeeps}
 use Rattle.forest_laws.proofs.Lists.{all_with, all_both, all_weaker, all_parts, pairs_with}
 use Rattle.forest_laws.proofs.Names.{name_is, name_from}
 use Rattle.forest_laws.proofs.Carried.{with_append, passed_over}

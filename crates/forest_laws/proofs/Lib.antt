@@ -10,3 +10,5 @@ pub mod InsertionKeeps
 pub mod CutKeeps
 pub mod Replacing
 pub mod ReplacementKeeps
+pub mod PathLaws
+pub mod SpanLaws

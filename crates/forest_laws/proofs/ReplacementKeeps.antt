@@ -22,7 +22,7 @@ use Rattle.hal_schema.specs.Paths.{path_with, path_after, with_paths, paths_of, 
 use Rattle.hal_schema.specs.Entry.{Entry, entry_of, entries_of, entries_by_row, is_taken}
 use Rattle.hal_schema.specs.Forest.{all_pairs, names_apart, has_length, is_path, is_selected, in_type_order, in_twin_order, has_unique_key, keys_apart, entries_differ, is_forest}
 use Rattle.hal_schema.specs.Span.{with_content, replaced, keeps_freely, may_replace, may_be_replaced}
-use Rattle.forest_laws.specs.Laws.{ReplacementKeeps}
+use Rattle.forest_laws.specs.Keeping.{ReplacementKeeps}
 use Rattle.forest_laws.proofs.Lists.{Found, found, find_at, find_none, all_parts, all_append, all_weaker, all_both, all_without, pairs_at, PairsAt, pairs_with, pairs_without}
 use Rattle.forest_laws.proofs.Names.{name_is, name_from}
 use Rattle.forest_laws.proofs.Carried.{with_append}

@@ -1,4 +1,4 @@
--- Laws of forests.
+-- What keeps a forest: inserting a row, cutting a span out, replacing a row's content.
 use Rattle.std.specs.Prelude.{ℕ, List, IsTrue}
 use Rattle.hal_base.specs.declared.place.Ilk.{Ilk}
 use Rattle.hal_schema.specs.declared.row.Row.{Row}

@@ -1,4 +1,4 @@
-ghost use Rattle.forest_laws.specs.Laws.{CutKeeps, InsertionKeeps, ReplacementKeeps};
+ghost use Rattle.forest_laws.specs.Keeping.{CutKeeps, InsertionKeeps, ReplacementKeeps};
 
 use hal_schema::schemas_are_kept;
 use partition_select::root_order_is_total;
