@@ -10,7 +10,8 @@ use Rattle.dbd_reader.specs.declared.fault.TextFault.{TextFault}
 use Rattle.dbd_reader.specs.declared.draft.Draft.{Draft}
 use Rattle.dbd_reader.specs.declared.draft.Draft.TheVariants as drafts
 use Rattle.dbd_reader.specs.declared.statement.Statement.{Statement}
-use Rattle.dbd_reader.specs.Lines.{is_printable, is_comment}
+use Rattle.hal_base.specs.Bytes.{is_printable}
+use Rattle.dbd_reader.specs.Lines.{is_comment}
 use Rattle.dbd_reader.specs.Words.{statement_word, from_word, word_of, operands_of}
 use Rattle.dbd_reader.specs.Operands.{operands_in, has_twins}
 use Rattle.dbd_reader.specs.Statements.{goes_on, statements}

@@ -6,7 +6,8 @@ use Rattle.std.proofs.lemmas.List.Sums.{sum_by-append}
 use Rattle.std.specs.List.{list_all, onto_first, slice_get}
 use Rattle.std.specs.Option.{option_map_or}
 use Rattle.std.specs.Str.Lines.{lines}
-use Rattle.dbd_reader.specs.Lines.{is_printable, is_comment}
+use Rattle.hal_base.specs.Bytes.{is_printable}
+use Rattle.dbd_reader.specs.Lines.{is_comment}
 use Rattle.dbd_reader.specs.Words.{is_dark, ends_in_comma}
 use Rattle.dbd_reader.specs.Statements.{statements}
 use Rattle.definition_printer.specs.Wrapped.{pieces, on_lines, wrapped}

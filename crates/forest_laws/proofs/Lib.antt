@@ -1,0 +1,14 @@
+pub mod Lists
+pub mod Carried
+pub mod Names
+pub mod Parents
+pub mod Place
+pub mod NewRow
+pub mod Order
+pub mod Entries
+pub mod InsertionKeeps
+pub mod CutKeeps
+pub mod Replacing
+pub mod ReplacementKeeps
+pub mod PathLaws
+pub mod SpanLaws

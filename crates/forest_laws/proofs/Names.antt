@@ -1,0 +1,91 @@
+-- Names and parents of rows, as equations.
+use Rattle.std.proofs.Common.{◌≡◌, ℕ, ◌==◌, Bool, true, false, not, ◌&&◌, List, [], ◌∷◌, ◌++◌, Option, Some, None, ◌⊎◌, inl, inr, refl, sym, ap, subst, ◌∙◌}
+use Rattle.std.specs.Prelude.{is_none}
+use Rattle.std.specs.List.{list_all}
+use Rattle.std.specs.Option.{option_map_or}
+use Rattle.std.proofs.lemmas.Bool.{and_parts, and_from, eqb-true, eq-eqb, not-true, true≢false}
+use Rattle.hal_base.specs.declared.place.Ilk.{Ilk}
+use Rattle.hal_schema.specs.declared.row.Row.{Row}
+use Rattle.hal_schema.specs.declared.schema.SegType.{SegType}
+use Rattle.hal_schema.specs.SegType.{parent_code, is_parent_code}
+use Rattle.hal_schema.specs.Row.{same_name, same_parent, is_parent, are_twins}
+use Rattle.hal_schema.specs.Forest.{all_pairs, names_apart, is_child_of}
+use Rattle.forest_laws.proofs.Lists.{Among, among_passes, pairs_at, all_middle}
+
+ilk_is : (a b : Ilk) → a.addr ≡ b.addr → a.part ≡ b.part → a.number ≡ b.number → a ≡ b
+ilk_is a b e f g = λ i. record { addr = e i; part = f i; number = g i }
+
+pub name_is : (a b : Ilk) → same_name a b ≡ true → a ≡ b
+name_is a b h =
+    let p = and_parts (a.addr == b.addr && a.part == b.part) (a.number == b.number) h in
+    let q = and_parts (a.addr == b.addr) (a.part == b.part) p.0 in
+    ilk_is a b (eqb-true a.addr b.addr q.0) (eqb-true a.part b.part q.1) (eqb-true a.number b.number p.1)
+
+name_itself : (a : Ilk) → same_name a a ≡ true
+name_itself a =
+    and_from (a.addr == a.addr && a.part == a.part) (a.number == a.number) (and_from (a.addr == a.addr) (a.part == a.part) (eq-eqb a.addr a.addr refl) (eq-eqb a.part a.part refl)) (eq-eqb a.number a.number refl)
+
+pub name_from : (a b : Ilk) → a ≡ b → same_name a b ≡ true
+name_from a b e = subst (λ (c : Ilk). same_name a c ≡ true) e (name_itself a)
+
+pub parents_are : (a b : Option Ilk) → same_parent a b ≡ true → a ≡ b
+parents_are None None h = refl
+parents_are None (Some b) h = cc
+parents_are (Some a) None h = cc
+parents_are (Some a) (Some b) h = ap (λ (c : Ilk). Some c) (name_is a b h)
+
+parent_itself : (a : Option Ilk) → same_parent a a ≡ true
+parent_itself None = refl
+parent_itself (Some a) = name_itself a
+
+pub parents_from : (a b : Option Ilk) → a ≡ b → same_parent a b ≡ true
+parents_from a b e = subst (λ (c : Option Ilk). same_parent a c ≡ true) e (parent_itself a)
+
+named_by : (name : Ilk) (o : Option Ilk) → option_map_or (same_name name) o false ≡ true → o ≡ Some name
+named_by name None h = cc
+named_by name (Some b) h = ap (λ (c : Ilk). Some c) (sym (name_is name b h))
+
+pub parent_is : (above row : Row) → is_parent above row ≡ true → row.parent ≡ Some above.name
+parent_is above row h = named_by above.name row.parent h
+
+pub parent_from : (above row : Row) → row.parent ≡ Some above.name → is_parent above row ≡ true
+parent_from above row e = ap (λ (o : Option Ilk). option_map_or (same_name above.name) o false) e ∙ name_itself above.name
+
+pub same_some : {X : Type 0} (a b : X) → Some a ≡ Some b → a ≡ b
+same_some a b e = cc
+
+pub none_is : {X : Type 0} (o : Option X) → is_none o ≡ true → o ≡ None
+none_is None h = refl
+none_is (Some x) h = cc
+
+code_is : (above : ℕ) (o : Option ℕ) → option_map_or (λ parent. parent == above) o false ≡ true → o ≡ Some above
+code_is above None h = cc
+code_is above (Some parent) h = ap (λ (n : ℕ). Some n) (eqb-true parent above h)
+
+pub parent_code_is : (types : List SegType) (above code : ℕ) → is_parent_code types above code ≡ true → parent_code types code ≡ Some above
+parent_code_is types above code h = code_is above (parent_code types code) h
+
+pub twins_are : (a b : Row) → are_twins a b ≡ true → (a.code ≡ b.code) × (a.parent ≡ b.parent)
+twins_are a b h =
+    let p = and_parts (a.code == b.code) (same_parent a.parent b.parent) h in
+    (eqb-true a.code b.code p.0, parents_are a.parent b.parent p.1)
+
+pub twins_from : (a b : Row) → a.code ≡ b.code → a.parent ≡ b.parent → are_twins a b ≡ true
+twins_from a b e f = and_from (a.code == b.code) (same_parent a.parent b.parent) (eq-eqb a.code b.code e) (parents_from a.parent b.parent f)
+
+-- no two of a list whose names differ have one name
+pub apart_names : (a b : Row) → names_apart a b ≡ true → a.name ≡ b.name → ⊥
+apart_names a b h e = absurd (true≢false (sym (name_from a.name b.name e) ∙ not-true (same_name a.name b.name) h))
+
+pub no_other : (front behind : List Row) (row other : Row) → all_pairs names_apart (front ++ row ∷ behind) ≡ true → Among other front ⊎ Among other behind → other.name ≡ row.name → ⊥
+no_other front behind row other h (inl a) e = apart_names other row (among_passes (λ r. names_apart r row) other front a (pairs_at names_apart front behind row h).before) e
+no_other front behind row other h (inr b) e = apart_names row other (among_passes (names_apart row) other behind b (pairs_at names_apart front behind row h).behind) (sym e)
+
+pub one_of_name : (rows : List Row) (a b : Row) → all_pairs names_apart rows ≡ true → Among a rows → Among b rows → a.name ≡ b.name → a ≡ b
+one_of_name [] a b h x y e = absurd x
+one_of_name (row ∷ rows) a b h (inl p) (inl q) e = sym p ∙ q
+one_of_name (row ∷ rows) a b h (inl p) (inr y) e =
+    absurd (apart_names row b (among_passes (names_apart row) b rows y (and_parts (list_all (names_apart row) rows) (all_pairs names_apart rows) h).0) (ap (λ (r : Row). r.name) p ∙ e))
+one_of_name (row ∷ rows) a b h (inr x) (inl q) e =
+    absurd (apart_names row a (among_passes (names_apart row) a rows x (and_parts (list_all (names_apart row) rows) (all_pairs names_apart rows) h).0) (ap (λ (r : Row). r.name) q ∙ sym e))
+one_of_name (row ∷ rows) a b h (inr x) (inr y) e = one_of_name rows a b (and_parts (list_all (names_apart row) rows) (all_pairs names_apart rows) h).1 x y e

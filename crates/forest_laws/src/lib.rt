@@ -1,0 +1,14 @@
+//! Laws of forests: what the definitions of `hal_schema` say of every schema and every list of rows. Each law is
+//! the contract of a function without code; a proof above calls it and has the law.
+#![tactic(auto)]
+
+mod keeping;
+mod paths;
+mod spans;
+
+pub use keeping::{cut_keeps, insertion_keeps, replacement_keeps};
+pub use paths::{
+    keys_are_long, paths_append, paths_are_ancestries, paths_are_by_parents, paths_begin_anew,
+    paths_go_on,
+};
+pub use spans::{cuts_are_spans, cuts_leave_anchors, spans_are_below};
