@@ -14,4 +14,5 @@ pub mod Script
 pub mod State
 pub mod Taken
 pub mod Top
+pub mod Volume
 pub mod Words

@@ -1,7 +1,7 @@
 //! The top calls of haldb: a command's words, a source and a site in, a status and the site out.
 //!
 //! - `desk`: `run`, with the theorem of the program;
-//! - `words`, `grammar`: which words are a command, and how clap parses them;
+//! - `words`, `grammar`: which words are a command, and how clap parses them; `volume`: which file they name;
 //! - `define`, `source`: a definition is checked, and a source is taken in whole;
 //! - `script`, `taker`: the loop over the source, and what takes one line at a time;
 //! - `one_list`, `roots`, `form`, `laws`: one list of roots as a taker, its lines, and that it is a forest's;
@@ -19,6 +19,7 @@ mod roots;
 mod script;
 mod source;
 mod taker;
+mod volume;
 mod words;
 
 pub use desk::{Ended, run};
@@ -29,4 +30,5 @@ pub use one_list::OneList;
 pub use roots::Roots;
 pub use script::{LIMIT, run_script};
 pub use taker::{EngineFault, LineTaker};
+pub use volume::{makes_file, path_of};
 pub use words::{Command, read_command};
