@@ -27,6 +27,7 @@ struct Pending {
 fn take_line<L: LineTaker>(taker: &mut L, number: u32, text: &[u8]) -> Result<(), EngineFault>
     requires { IsTrue ((L.seen taker.old).clean && (L.seen taker.old).live) }
     ensures schema { L.schema taker.new ≡ L.schema taker.old }
+    ensures steady { L.steady taker.old taker.new }
     ensures ready { OnOk result (IsTrue ((L.seen taker.new).clean && (L.seen taker.new).live)) }
     ensures did { OnOk result (DidLines (L.meaning (L.schema taker.old)) None (text.now ∷ []) number (L.seen taker.old) (L.seen taker.new)) }
     ensures stopped { IfErr result (CutLines (L.meaning (L.schema taker.old)) None (text.now ∷ []) number (L.seen taker.old) (L.seen taker.new)) }
@@ -49,6 +50,7 @@ fn take_byte<L: LineTaker>(
     requires unended { parts_of pending.old.line ≡ pending.old.line ∷ [] }
     requires number { pending.old.number < 2 ^ 31 }
     ensures schema { L.schema taker.new ≡ L.schema taker.old }
+    ensures steady { L.steady taker.old taker.new }
     ensures ready { OnOk result (IsTrue ((L.seen taker.new).clean && (L.seen taker.new).live)) }
     ensures line { OnOk result (pending.new.line ≡ rest_of (pending.old.line ++ byte ∷ [])) }
     ensures number { OnOk result (pending.new.number ≡ pending.old.number + length (ended_lines (pending.old.line ++ byte ∷ []))) }
@@ -77,6 +79,7 @@ fn take_piece<L: LineTaker>(
     requires unended { parts_of pending.old.line ≡ pending.old.line ∷ [] }
     requires number { pending.old.number + length piece.now < 2 ^ 31 }
     ensures schema { L.schema taker.new ≡ L.schema taker.old }
+    ensures steady { L.steady taker.old taker.new }
     ensures ready { OnOk result (IsTrue ((L.seen taker.new).clean && (L.seen taker.new).live)) }
     ensures line { OnOk result (pending.new.line ≡ rest_of (pending.old.line ++ piece.now)) }
     ensures number { OnOk result (pending.new.number ≡ pending.old.number + length (ended_lines (pending.old.line ++ piece.now))) }
@@ -96,6 +99,7 @@ fn take_last<L: LineTaker>(taker: &mut L, pending: &Pending) -> Result<(), Engin
     requires ready { IsTrue ((L.seen taker.old).clean && (L.seen taker.old).live) }
     requires unended { parts_of pending.now.line ≡ pending.now.line ∷ [] }
     ensures schema { L.schema taker.new ≡ L.schema taker.old }
+    ensures steady { L.steady taker.old taker.new }
     ensures did { OnOk result (DidLines (L.meaning (L.schema taker.old)) None (lines pending.now.line) pending.now.number (L.seen taker.old) (L.seen taker.new)) }
     ensures stopped { IfErr result (CutLines (L.meaning (L.schema taker.old)) None (lines pending.now.line) pending.now.number (L.seen taker.old) (L.seen taker.new)) }
     ensures cause { HasEngineCause (L.seen taker.old).disk_faults (L.seen taker.new).disk_faults (L.seen taker.old).say_faults (L.seen taker.new).say_faults result }
@@ -128,6 +132,7 @@ fn finish<L: LineTaker>(taker: &mut L, pending: &Pending) -> Ending
     requires ready { IsTrue ((L.seen taker.old).clean && (L.seen taker.old).live) }
     requires unended { parts_of pending.now.line ≡ pending.now.line ∷ [] }
     ensures schema { L.schema taker.new ≡ L.schema taker.old }
+    ensures steady { L.steady taker.old taker.new }
     ensures later { ((L.seen taker.old).disk_faults ≤ (L.seen taker.new).disk_faults) × ((L.seen taker.old).say_faults ≤ (L.seen taker.new).say_faults) }
     ensures ended { (before after : SourceView) (room : ℕ) → Consumes before.left after.left [] → IsAtEnd after.left
         → RanFrom (L.meaning (L.schema taker.old)) pending.now.line pending.now.number room before after (L.seen taker.old) (L.seen taker.new) result }
@@ -150,6 +155,7 @@ fn step<S: Source, L: LineTaker>(
     requires number { pending.old.number + room.old < 2 ^ 30 }
     requires some { 0 < room.old }
     ensures schema { L.schema taker.new ≡ L.schema taker.old }
+    ensures steady { L.steady taker.old taker.new }
     ensures ready { IfNone result (IsTrue ((L.seen taker.new).clean && (L.seen taker.new).live)) }
     ensures number { IfNone result (pending.new.number + room.new < 2 ^ 30) }
     ensures nearer { IfNone result (room.new < room.old) }
@@ -184,6 +190,7 @@ fn read_past<S: Source, L: LineTaker>(source: &mut S, taker: &mut L, pending: &P
     requires ready { IsTrue ((L.seen taker.old).clean && (L.seen taker.old).live) }
     requires unended { parts_of pending.now.line ≡ pending.now.line ∷ [] }
     ensures schema { L.schema taker.new ≡ L.schema taker.old }
+    ensures steady { L.steady taker.old taker.new }
     ensures ended { RanFrom (L.meaning (L.schema taker.old)) pending.now.line pending.now.number 0
         (source_view S.left S.read_faults source.old)
         (source_view S.left S.read_faults source.new)
@@ -203,6 +210,7 @@ fn read_past<S: Source, L: LineTaker>(source: &mut S, taker: &mut L, pending: &P
 pub fn run_script<S: Source, L: LineTaker>(alloc: Global, source: &mut S, taker: &mut L) -> Ending
     requires { IsTrue ((L.seen taker.old).clean && (L.seen taker.old).live) }
     ensures schema { L.schema taker.new ≡ L.schema taker.old }
+    ensures steady { L.steady taker.old taker.new }
     ensures ran { RanScript (L.meaning (L.schema taker.old))
         (source_view S.left S.read_faults source.old)
         (source_view S.left S.read_faults source.new)

@@ -41,6 +41,9 @@ pub trait LineTaker: Live {
     /// What is seen of the taker.
     ghost seen: { Self → TakerView Self.State };
 
+    /// What no call changes of the place where the taker keeps its state.
+    ghost steady: { Self → Self → Type 0 };
+
     /// How many more units the line at hand may have at most.
     ghost units_left: { Self → ℕ };
 
@@ -51,6 +54,7 @@ pub trait LineTaker: Live {
         ensures took { IfOk result (TookOne (meaning (schema self.old)) script number text.now (seen self.old) (seen self.new)) }
         ensures cut { IfErr result (CutOne (meaning (schema self.old)) script number text.now (seen self.old) (seen self.new)) }
         ensures schema { schema self.new ≡ schema self.old }
+        ensures steady { steady self.old self.new }
         ensures nearer { result ≡ Ok false → units_left self.new < units_left self.old }
         ensures cause { HasEngineCause (seen self.old).disk_faults (seen self.new).disk_faults (seen self.old).say_faults (seen self.new).say_faults result };
 
@@ -58,4 +62,8 @@ pub trait LineTaker: Live {
 
     /// Where nothing is staged, a stop leaves just what is told.
     ghost leaves_told: { (taker : Self) → (seen taker).clean ≡ true → (seen taker).live ≡ true → LeavesTold (meaning (schema taker)).keeping (seen taker) };
+
+    ghost steady_none: { (taker : Self) → steady taker taker };
+
+    ghost steady_then: { (a b c : Self) → steady a b → steady b c → steady a c };
 }

@@ -21,6 +21,7 @@ pieces-preserved g c =
         };
       },
       c.in_default.ensures.schema ∙ inv.1,
+      g.met.L.LineTaker.steady_then _ _ _ inv.2 c.in_default.ensures.steady,
     )
 
 pub pieces-init : goal.pieces-init
@@ -35,6 +36,7 @@ pieces-init g c =
         later = record { read = omega arith; say = omega arith; disk = omega arith };
       },
       refl,
+      g.met.L.LineTaker.steady_none c.args.taker.now,
     )
 
 pub returns-in-Some-clause-ran : goal.returns-in-Some-clause-ran

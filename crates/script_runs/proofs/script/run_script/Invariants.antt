@@ -8,7 +8,7 @@ invariant-pieces g l =
     let s = g.S.Source in
     let t = g.L.LineTaker in
     PiecesSoFar (t.meaning (t.schema l.fn.taker)) l.pending.line l.pending.number l.room (source_view s.left s.read_faults l.fn.source) (source_view s.left s.read_faults l.source)
-    (t.seen l.fn.taker) (t.seen l.taker) × (t.schema l.taker ≡ t.schema l.fn.taker)
+    (t.seen l.fn.taker) (t.seen l.taker) × (t.schema l.taker ≡ t.schema l.fn.taker) × t.steady l.fn.taker l.taker
 
 abbrev pub decreases-pieces : goal.decreases-pieces
 decreases-pieces g l = l.room

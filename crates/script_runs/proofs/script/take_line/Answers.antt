@@ -7,7 +7,7 @@ use Rattle.script_runs.proofs.script.take_line.Goals as goal
 pub units-init : goal.units-init
 units-init g c =
     let t = g.L.LineTaker in
-    (record { ready = record { is_ready = c.requires; disk_later = omega arith; say_later = omega arith }; not_yet = not_yet_none (t.meaning (t.schema c.args.taker.now)) _ c.args.text.now c.args.number (t.seen c.args.taker.now) }, refl)
+    (record { ready = record { is_ready = c.requires; disk_later = omega arith; say_later = omega arith }; not_yet = not_yet_none (t.meaning (t.schema c.args.taker.now)) _ c.args.text.now c.args.number (t.seen c.args.taker.now) }, refl, g.met.L.LineTaker.steady_none c.args.taker.now)
 
 pub returns-in_err-line-clause-stopped : goal.returns-in_err-line-clause-stopped
 returns-in_err-line-clause-stopped g c =
@@ -43,4 +43,5 @@ units-preserved g c =
         not_yet = not_yet_more told inv.0.not_yet took;
       },
       c.in_ok-line.ensures.schema ∙ inv.1,
+      g.met.L.LineTaker.steady_then _ _ _ inv.2 c.in_ok-line.ensures.steady,
     )

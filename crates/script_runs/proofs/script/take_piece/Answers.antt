@@ -52,6 +52,7 @@ loop-byte-preserved g c =
         did = rw seen (did_more x y c.loop-byte.pending.line c.loop-byte.pending.number inv.0.is_rest inv.0.is_number inv.0.did (rw inv.1 at c.in_ok-take_byte.ensures.did));
       },
       c.in_ok-take_byte.ensures.schema ∙ inv.1,
+      g.met.L.LineTaker.steady_then _ _ _ inv.2 c.in_ok-take_byte.ensures.steady,
     )
 
 pub loop-byte-init : goal.loop-byte-init
@@ -67,4 +68,5 @@ loop-byte-init g c =
         did = rw (same, ap ended_parts c.requires.unended) (did_none (t.meaning (t.schema c.args.taker.now)) _ c.args.pending.now.number (t.seen c.args.taker.now));
       },
       refl,
+      g.met.L.LineTaker.steady_none c.args.taker.now,
     )
