@@ -18,7 +18,10 @@ pub fn makes_file(words: &[String]) -> bool
     ensures { result ≡ makes_file (map string_bytes words.now) }
 {
     match words {
-        [name, ..] => matches!(name.as_str(), "define" | "make" | "exercise"),
+        [name, ..] => {
+            let name = name.as_str();
+            name == "define" || name == "make" || name == "exercise"
+        }
         [] => false,
     }
 }
