@@ -16,23 +16,23 @@ use Rattle.dbd_reader.specs.declared.fault.TextFault.TheVariants as fault
 use Rattle.dbd_reader.specs.Definition.{meaning_of, Says}
 use Rattle.partition_reader.specs.Partitions.{partitions_of}
 use Rattle.hal_desk.specs.State.{empty_state}
-use Rattle.hal_desk.specs.Run.{Told}
 use Rattle.hal_desk.specs.Says.{SaysLine}
-use Rattle.hal_desk.specs.Script.{Outside, status_of, limit}
-use Rattle.hal_desk.specs.Taken.{StoppedAt}
+use Rattle.script_runs.specs.Script.{status_of, limit}
+use Rattle.hal_desk.specs.ThreeForms.{meaning}
+use Rattle.hal_desk.specs.Outside.{Outside, source_of, list_on}
 use Rattle.hal_desk.specs.Gathered.{Gathered, IsCut}
 use Rattle.hal_desk.specs.Define.{Broken, DefineEnds, RanDefine, answer_of, definition_of, judged, with_dbd, with_parts}
 use Rattle.hal_desk.specs.Top.{Did, RanCall, EndsWell}
 use Rattle.hal_desk.specs.declared.define.Answer.{Answer}
-use Rattle.hal_desk.specs.declared.ending.Ending.{Ending}
-use Rattle.hal_desk.specs.declared.ending.Ending.TheVariants as ending
+use Rattle.script_runs.specs.declared.ending.Ending.{Ending}
+use Rattle.script_runs.specs.declared.ending.Ending.TheVariants as ending
 use Rattle.hal_desk.specs.declared.source.SourceFault.{SourceFault}
-use Rattle.hal_desk.specs.declared.taker.EngineFault.TheVariants as engine
+use Rattle.script_runs.specs.declared.taker.EngineFault.TheVariants as engine
 use Rattle.hal_desk.specs.declared.words.Command.{Command}
 use Rattle.hal_desk.specs.declared.words.Command.TheVariants.{Define, Load, Unload, Call, Report, Reorg, Make, Exercise}
 use Rattle.hal_desk.proofs.Complete.{complete, taken_within}
-use Rattle.hal_desk.proofs.Composed.{RunsTo-nil}
-use Rattle.hal_desk.proofs.Endings.{ran_stopped}
+use Rattle.script_runs.proofs.Endings.{ran_cut}
+use Rattle.script_runs.proofs.Joined.{cut_none}
 
 -- ---- what a source says
 
@@ -74,25 +74,13 @@ ran_answer before after r text line a status g e is at says =
 
 -- ---- no memory for the words
 
-stopped : (said : Option (List ℕ)) (told : Told) → StoppedAt None (lines []) 1 told told said said engine.Memory
-stopped said told = record {
-  events = [];
-  begun = [];
-  part = [];
-  left = lines [];
-  lines = record { run = RunsTo-nil told; took = refl; text = Appends-nil said };
-  began = inl (refl, refl);
-}
-
 call_not_begun : (before : Outside) → RanCall before before 8
-call_not_begun before =
-    let start : Told = record { state = Some empty_state; free = 0 } in
-    record {
-      ending = ending.Memory;
-      status_is = refl;
-      after_told = start;
-      ran = ran_stopped engine.Memory [] 1 limit before before start start [] (Consumes-nil before.left) (omega arith) (stopped before.said start) tt;
-    }
+call_not_begun before = record {
+  ending = ending.Memory;
+  status_is = refl;
+  end = empty_state;
+  ran = ran_cut meaning engine.Memory [] 1 limit (source_of before) (source_of before) (list_on before empty_state) (list_on before empty_state) [] (Consumes-nil before.left) (omega arith) (cut_none meaning None 1 (list_on before empty_state)) tt;
+}
 
 pub nothing_done : (command : Option Command) (before : Outside) → Did command before before 8
 nothing_done None before = inr (inr (refl, Keeps-refl before.said))
@@ -142,24 +130,21 @@ define_well before after status text ran (inr (inr (inr h))) tells within reads 
     let short : length ran.taken ≤ length text = taken_within text ran.taken after.left (rw tells at ran.read) in
     let long = h.1 in absurd (omega (arith, short, within, long))
 
-rose_not : (m n : ℕ) → m ≡ 0 → n ≡ 0 → Rose m n → ⊥
-rose_not m n d e rose = omega (arith, d, e, rose)
-
 status_by : (status : ℕ) (e : Ending) → status ≡ status_of e → (status_of e ≡ 0) ⊎ (status_of e ≡ 8) → (status ≡ 0) ⊎ (status ≡ 8)
 status_by status e is (inl h) = inl (is ∙ h)
 status_by status e is (inr h) = inr (is ∙ h)
 
-pub ends_well : (command : Option Command) (before after : Outside) (status : ℕ) (text : List ℕ) → before.disk_faults ≡ 0 → after.disk_faults ≡ 0 → Did command before after status → before.left ≡ Some text → length text ≤ limit
+pub ends_well : (command : Option Command) (before after : Outside) (status : ℕ) (text : List ℕ) → Did command before after status → before.left ≡ Some text → length text ≤ limit
     → (Rose before.read_faults after.read_faults → ⊥) → (Rose before.say_faults after.say_faults → ⊥) → EndsWell command status
-ends_well None before after status text d e did tells within reads says = tt
-ends_well (Some (Define volume)) before after status text d e did tells within reads says = define_well before after status text did did.ends tells within reads says
-ends_well (Some (Call volume)) before after status text d e did tells within reads says =
-    let never : Rose before.disk_faults after.disk_faults → ⊥ = λ rose. rose_not before.disk_faults after.disk_faults d e rose in
-    let c = complete before after _ did.after_told did.ending text did.ran tells within reads says never in
+ends_well None before after status text did tells within reads says = tt
+ends_well (Some (Define volume)) before after status text did tells within reads says = define_well before after status text did did.ends tells within reads says
+ends_well (Some (Call volume)) before after status text did tells within reads says =
+    let never : Rose 0 0 → ⊥ = λ rose. omega (arith, rose) in
+    let c = complete meaning (source_of before) (source_of after) (list_on before empty_state) (list_on after did.end) did.ending text did.ran tells within reads says never in
     status_by status did.ending did.status_is c
-ends_well (Some (Load volume)) before after status text d e did tells within reads says = tt
-ends_well (Some (Unload volume)) before after status text d e did tells within reads says = tt
-ends_well (Some (Report volume)) before after status text d e did tells within reads says = tt
-ends_well (Some (Reorg volume part)) before after status text d e did tells within reads says = tt
-ends_well (Some (Make volume count number)) before after status text d e did tells within reads says = tt
-ends_well (Some (Exercise volume count number)) before after status text d e did tells within reads says = tt
+ends_well (Some (Load volume)) before after status text did tells within reads says = tt
+ends_well (Some (Unload volume)) before after status text did tells within reads says = tt
+ends_well (Some (Report volume)) before after status text did tells within reads says = tt
+ends_well (Some (Reorg volume part)) before after status text did tells within reads says = tt
+ends_well (Some (Make volume count number)) before after status text did tells within reads says = tt
+ends_well (Some (Exercise volume count number)) before after status text did tells within reads says = tt

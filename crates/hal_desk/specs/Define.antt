@@ -14,7 +14,8 @@ use Rattle.dbd_reader.specs.declared.fault.TextFault.TheVariants.{Rule, Memory}
 use Rattle.dbd_reader.specs.Definition.{meaning_of}
 use Rattle.partition_reader.specs.Partitions.{partitions_of}
 use Rattle.hal_desk.specs.declared.define.Answer.{Answer}
-use Rattle.hal_desk.specs.Script.{Outside, limit}
+use Rattle.script_runs.specs.Script.{limit}
+use Rattle.hal_desk.specs.Outside.{Outside}
 use Rattle.hal_desk.specs.Says.{SaysLine}
 
 -- a rule that is broken, and where

@@ -2,7 +2,7 @@
 use Rattle.std.specs.Prelude.{ℕ, ◌≡◌, ◌+◌, ◌≤◌, List, length, Option, Result, MatchResult}
 use Rattle.std.specs.Io.KnownBytes.{Consumes, IsAtEnd}
 use Rattle.hal_base.specs.Fault.{Rose}
-use Rattle.hal_desk.specs.Script.{limit}
+use Rattle.script_runs.specs.Script.{limit}
 use Rattle.hal_desk.specs.declared.source.SourceFault.{SourceFault}
 use Rattle.hal_desk.specs.declared.source.SourceFault.TheVariants.{ReadFault, TooLong, Memory}
 

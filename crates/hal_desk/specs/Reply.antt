@@ -5,7 +5,8 @@ use Rattle.std.specs.List.{list_any}
 use Rattle.std.specs.Str.{bytes_eq}
 use Rattle.hal_base.specs.declared.place.Ilk.{Ilk}
 use Rattle.hal_schema.specs.declared.row.Row.{Row}
-use Rattle.hal_desk.specs.State.{State, root_of, root_inserted, root_key, HasName}
+use Rattle.hal_desk.specs.declared.state.State.{State}
+use Rattle.hal_desk.specs.State.{root_of, root_inserted, root_key, HasName}
 use Rattle.hal_desk.specs.declared.form.Form.{Form}
 use Rattle.hal_desk.specs.declared.form.Form.TheVariants.{Silent, Open, Insert, Get, Unknown}
 

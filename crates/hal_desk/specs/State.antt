@@ -4,14 +4,8 @@ use Rattle.std.specs.Cmp.Lexicographic.{slice_cmp}
 use Rattle.std.specs.Ordering.{nat_cmp, is_lt}
 use Rattle.std.specs.Str.{bytes_eq}
 use Rattle.hal_base.specs.declared.place.Ilk.{Ilk}
-use Rattle.hal_base.specs.declared.place.PartState.{PartState}
+use Rattle.hal_desk.specs.declared.state.State.{State}
 use Rattle.hal_schema.specs.declared.row.Row.{Row}
-
--- The forest is one list of rows in hierarchic sequence. A session is known by its name (IMS: a PCB).
-pub record State : Type 0 where
-  pub forest : List Row
-  pub sessions : List (List ℕ)
-  pub parts : List PartState
 
 -- nothing is stored, and no session is open
 abbrev pub empty_state : State

@@ -1,11 +1,13 @@
 -- What the top call did.
 use Rattle.std.specs.Prelude.{ℕ, ◌≡◌, ◌⊎◌, Bool, true, false, Option, None, Some, codes, ⊤}
+use Rattle.script_runs.specs.Script.{RanScript, status_of}
+use Rattle.script_runs.specs.declared.ending.Ending.{Ending}
 use Rattle.hal_desk.specs.State.{empty_state}
-use Rattle.hal_desk.specs.Run.{Told}
-use Rattle.hal_desk.specs.Script.{Outside, RanScript, status_of}
+use Rattle.hal_desk.specs.declared.state.State.{State}
+use Rattle.hal_desk.specs.ThreeForms.{meaning}
+use Rattle.hal_desk.specs.Outside.{Outside, source_of, list_on}
 use Rattle.hal_desk.specs.Says.{SaysLine}
 use Rattle.hal_desk.specs.Define.{RanDefine}
-use Rattle.hal_desk.specs.declared.ending.Ending.{Ending}
 use Rattle.hal_desk.specs.declared.words.Command.{Command}
 use Rattle.hal_desk.specs.declared.words.Command.TheVariants.{Define, Call}
 
@@ -13,8 +15,8 @@ use Rattle.hal_desk.specs.declared.words.Command.TheVariants.{Define, Call}
 pub record RanCall (before after : Outside) (status : ℕ) : Type 0 where
   pub ending : Ending
   pub status_is : status ≡ status_of ending
-  pub after_told : Told
-  pub ran : RanScript before after (record { state = Some empty_state; free = 0 }) after_told ending
+  pub end : State
+  pub ran : RanScript meaning (source_of before) (source_of after) (list_on before empty_state) (list_on after end) ending
 
 -- What a command did. Words that are no command are status 1; a command that isn't built yet is status 11.
 abbrev pub Did : Option Command → Outside → Outside → ℕ → Type 0

@@ -2,11 +2,10 @@
 ghost use Rattle.std.specs.Prelude.{◌≡◌, ◌<◌, ◌≤◌, ◌++◌, [], length, IfOk, OnErr, IfErr, Ok, take};
 ghost use Rattle.std.specs.Io.KnownBytes.{Consumes, IsAtEnd, Keeps};
 ghost use Rattle.hal_base.specs.Fault.{HasCause, Rose};
-ghost use Rattle.hal_desk.specs.Script.{limit};
+ghost use Rattle.script_runs.specs.Script.{limit};
 
-use crate::LIMIT;
-use crate::script::{PIECE, read_piece};
 use hal_base::{Bytes, Failed, Memory, Source};
+use script_runs::{LIMIT, PIECE, read_piece};
 use std::alloc::Global;
 
 /// Why a source wasn't taken in.

@@ -3,7 +3,7 @@
 #![tactic(auto)]
 
 use hal_base::Bytes;
-use hal_desk::run;
+use hal_desk::{makes_file, path_of, run};
 use hal_disk::{FileSite, InputSource};
 use std::process::ExitCode;
 use std::{env, io};
@@ -18,24 +18,19 @@ fn main(rt: HostRuntime) -> ExitCode {
     }
 }
 
-/// Runs the command that the words after the program's name say. The second word names the volume's file; a command
-/// that makes a volume makes an absent file.
+/// Runs the command that the words after the program's name say. Words that aren't UTF-8 are no command.
 fn status(rt: &HostRuntime) -> io::Result<u8> {
     let alloc = rt.alloc();
-    let words: Vec<String> = env::args(rt)?.skip(1).collect(alloc)?;
-    let makes = match words.first() {
-        Some(word) => matches!(word.as_str(), "define" | "make" | "exercise"),
-        None => false,
+    let words: Vec<String> = match env::args(rt) {
+        Ok(words) => words.skip(1).collect(alloc)?,
+        Err(fault) if fault.kind() == io::ErrorKind::InvalidData => Vec::new(alloc),
+        Err(fault) => return Err(fault),
     };
-    let path = match words.get(1) {
-        Some(word) => word.as_bytes().to_vec(alloc)?,
-        None => Vec::new(alloc),
-    };
-    let path = match Bytes::from_slice(alloc, &path) {
+    let path = match Bytes::from_slice(alloc, path_of(&words)) {
         Ok(path) => path,
         Err(_) => return Ok(OUT_OF_MEMORY),
     };
-    let site = FileSite::new(rt.clone()?, path, makes);
+    let site = FileSite::new(rt.clone()?, path, makes_file(&words));
     let mut source = InputSource::new(rt.clone()?);
     let ended = run(alloc, words.as_slice(), &mut source, site);
     Ok(ended.status)

@@ -15,4 +15,4 @@ returns-in-Ok-None-clause-did g c =
 pub returns-in-Ok-Some-clause-complete : goal.returns-in-Ok-Some-clause-complete
 returns-in-Ok-Some-clause-complete g c = λ text tells within reads says.
     let e : Some c.in-Ok-Some.command ≡ command_of (map string_bytes c.args.words.now) = search rules in
-    same_well (Some c.in-Ok-Some.command) _ _ e (ends_well (Some c.in-Ok-Some.command) _ _ _ text refl refl c.obey.ensures.did tells within reads says)
+    same_well (Some c.in-Ok-Some.command) _ _ e (ends_well (Some c.in-Ok-Some.command) _ _ _ text c.obey.ensures.did tells within reads says)

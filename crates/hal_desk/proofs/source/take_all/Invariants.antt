@@ -1,6 +1,6 @@
 use Rattle.std.proofs.Common.{◌≤◌, ◌+◌, ◌-◌, length}
 use Rattle.std.specs.Io.KnownBytes.{Consumes}
-use Rattle.hal_desk.specs.Script.{limit}
+use Rattle.script_runs.specs.Script.{limit}
 use Rattle.hal_desk.proofs.source.take_all.Given as goal
 
 abbrev pub invariant-pieces : goal.invariant-pieces

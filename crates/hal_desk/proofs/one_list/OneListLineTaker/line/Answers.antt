@@ -1,23 +1,39 @@
 use Rattle.std.proofs.lemmas.Result.{err_from_is_err_and}
+use Rattle.hal_base.proofs.StopLemmas.{not_yet}
 use Rattle.hal_desk.specs.Roots.{state_of}
-use Rattle.hal_desk.proofs.Events.{stopped_before, stopped_in_say, took_one}
+use Rattle.hal_desk.proofs.Events.{Saying, cut_before, cut_in_say, took_one}
 use Rattle.hal_desk.proofs.one_list.OneListLineTaker.line.Goals as goal
 
-pub returns-in_err-reply-clause-stopped : goal.returns-in_err-reply-clause-stopped
-returns-in_err-reply-clause-stopped g c =
+pub returns-in_err-reply-clause-cut : goal.returns-in_err-reply-clause-cut
+returns-in_err-reply-clause-cut g c =
+    let t = g.T.Site in
+    let site = c.args.self.now.site in
+    let a : Saying = record { said = t.said site; moment = t.moment site; left_at = t.left_at site; say_faults = t.say_faults site } in
     let p = err_from_is_err_and c.from_residual.result c.from_residual.ensures.1 in
-    rw (p.1, p.2) (stopped_before c.args._script c.args.number c.args.text.now (state_of c.args.self.now.roots) (state_of c.take.new.self) (g.T.Site.said c.args.self.now.site) c.in_err-reply.ensures.err)
+    rw (p.1, p.2) (cut_before c.args._script c.args.number c.args.text.now (state_of c.args.self.now.roots) (state_of c.take.new.self) a c.in_err-reply.ensures.err (not_yet _ _ _))
 
-pub returns-in_err-say-clause-stopped : goal.returns-in_err-say-clause-stopped
-returns-in_err-say-clause-stopped g c =
+pub returns-in_err-say-clause-cut : goal.returns-in_err-say-clause-cut
+returns-in_err-say-clause-cut g c =
+    let t = g.T.Site in
+    let site = c.args.self.now.site in
+    let now = c.say.new.site in
+    let a : Saying = record { said = t.said site; moment = t.moment site; left_at = t.left_at site; say_faults = t.say_faults site } in
+    let b : Saying = record { said = t.said now; moment = t.moment now; left_at = t.left_at now; say_faults = t.say_faults now } in
     let p = err_from_is_err_and c.from_residual-in_err-say.result c.from_residual-in_err-say.ensures.1 in
     let part = rw c.as_slice.ensures at c.in_err-say.ensures.fault.1 in
+    let stops = rw c.as_slice.ensures at c.in_err-say.ensures.stops in
     rw (p.1, p.2, c.in_err-say.ensures.fault.0)
-    (stopped_in_say c.args._script c.args.number c.args.text.now (state_of c.args.self.now.roots) (state_of c.take.new.self) (g.T.Site.said c.args.self.now.site) (g.T.Site.said c.say.new.site) c.in_ok-reply.reply
-    (record { reply = c.in_ok-reply.ensures.text; leads = c.in_ok-reply.ensures.leads }) part)
+    (cut_in_say c.args._script c.args.number c.args.text.now (state_of c.args.self.now.roots) (state_of c.take.new.self) a b c.in_ok-reply.reply (g.met.T.Site.said_now site)
+    (record { reply = c.in_ok-reply.ensures.text; leads = c.in_ok-reply.ensures.leads }) part stops)
 
 pub returns-clause-took : goal.returns-clause-took
 returns-clause-took g c =
+    let t = g.T.Site in
+    let site = c.args.self.now.site in
+    let now = c.say.new.site in
+    let a : Saying = record { said = t.said site; moment = t.moment site; left_at = t.left_at site; say_faults = t.say_faults site } in
+    let b : Saying = record { said = t.said now; moment = t.moment now; left_at = t.left_at now; say_faults = t.say_faults now } in
     let said = rw c.as_slice.ensures at c.in_ok-say.ensures.said in
-    took_one c.args._script c.args.number c.args.text.now (state_of c.args.self.now.roots) (state_of c.take.new.self) (g.T.Site.said c.args.self.now.site) (g.T.Site.said c.say.new.site) c.in_ok-reply.reply
-    (record { reply = c.in_ok-reply.ensures.text; leads = c.in_ok-reply.ensures.leads }) said
+    let stops = rw c.as_slice.ensures at c.in_ok-say.ensures.stops in
+    took_one c.args._script c.args.number c.args.text.now (state_of c.args.self.now.roots) (state_of c.take.new.self) a b c.in_ok-reply.reply (g.met.T.Site.said_now site)
+    (record { reply = c.in_ok-reply.ensures.text; leads = c.in_ok-reply.ensures.leads }) said stops
