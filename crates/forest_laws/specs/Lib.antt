@@ -1,3 +1,4 @@
 pub mod Keeping
 pub mod Paths
 pub mod Spans
+pub mod Entries
