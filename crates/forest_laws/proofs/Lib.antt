@@ -13,3 +13,4 @@ pub mod ReplacementKeeps
 pub mod PathLaws
 pub mod SpanLaws
 pub mod EntryLaws
+pub mod ExampleLaws

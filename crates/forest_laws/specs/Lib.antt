@@ -2,3 +2,4 @@ pub mod Keeping
 pub mod Paths
 pub mod Spans
 pub mod Entries
+pub mod Examples
