@@ -17,7 +17,7 @@ use Rattle.forest_laws.specs.Keeping.{CutKeeps}
 use Rattle.forest_laws.proofs.Lists.{Front, front_of, drop_front, all_weaker, all_without, pairs_without}
 use Rattle.forest_laws.proofs.Carried.{not_above, is_above, starts_above, with_append, passed_over}
 use Rattle.forest_laws.proofs.Parents.{Parts, parts_of, forest_from}
-use Rattle.forest_laws.proofs.Entries.{pairs_in_order, entries_append}
+use Rattle.forest_laws.proofs.EntriesByRow.{pairs_in_order, entries_append}
 
 -- where a span stands
 pub record CutAt (types : List SegType) (rows : List Row) (name : Ilk) : Type 0 where

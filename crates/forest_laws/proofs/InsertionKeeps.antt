@@ -26,8 +26,8 @@ use Rattle.forest_laws.proofs.Parents.{Parts, parts_of, forest_from}
 use Rattle.forest_laws.proofs.Place.{Placed, placed_of}
 use Rattle.forest_laws.proofs.NewRow.{IsNew, new_parts, new_under, NewPath, new_path_at}
 use Rattle.forest_laws.proofs.Order.{Around, types_with, twins_with}
-use Rattle.forest_laws.proofs.Entries.{bytes_turned, pairs_in_order, untaken, entries_append, Adds, adds, own_key, entry_has_key, is_source}
-use Rattle.forest_laws.proofs.Entries.Adds.{Nothing, One}
+use Rattle.forest_laws.proofs.EntriesByRow.{bytes_turned, pairs_in_order, untaken, entries_append, Adds, adds, own_key, entry_has_key, is_source}
+use Rattle.forest_laws.proofs.EntriesByRow.Adds.{Nothing, One}
 
 pub none_passes : {X : Type 0} (p : X → Bool) (xs : List X) → is_none (find p xs) ≡ true → list_all (λ x. not (p x)) xs ≡ true
 none_passes p [] h = refl

@@ -5,10 +5,12 @@ pub mod Parents
 pub mod Place
 pub mod NewRow
 pub mod Order
-pub mod Entries
+pub mod EntriesByRow
 pub mod InsertionKeeps
 pub mod CutKeeps
 pub mod Replacing
 pub mod ReplacementKeeps
 pub mod PathLaws
 pub mod SpanLaws
+pub mod EntryLaws
+pub mod ExampleLaws

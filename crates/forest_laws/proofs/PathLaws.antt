@@ -83,7 +83,7 @@ root_ancestry : (schema : Schema) → IsKept schema → (row : Row) → row.code
 root_ancestry schema kept row e =
     ap (ancestry (parent_code schema.types)) e ∙ ap (λ (o : Option ℕ). 1 ∷ option_map_or (λ (c : ℕ). []) o []) kept.root ∙ ap (λ (n : ℕ). n ∷ []) (sym e)
 
-path_codes : (schema : Schema) → IsKept schema → (path : List Row) (row : Row) → is_path schema.types None (path ++ row ∷ []) ≡ true → reverse (map (λ r. r.code) (path ++ row ∷ [])) ≡ ancestry (parent_code schema.types) row.code
+pub path_codes : (schema : Schema) → IsKept schema → (path : List Row) (row : Row) → is_path schema.types None (path ++ row ∷ []) ≡ true → reverse (map (λ r. r.code) (path ++ row ∷ [])) ≡ ancestry (parent_code schema.types) row.code
 path_codes schema kept [] row h =
     let a = and_parts (is_child_of schema.types None row) true h in
     let one = eqb-true row.code 1 (and_parts (row.code == 1) (is_none row.parent) a.0).0 in

@@ -29,7 +29,7 @@ use Rattle.forest_laws.proofs.Carried.{with_append}
 use Rattle.forest_laws.proofs.Parents.{Parts, parts_of, forest_from}
 use Rattle.forest_laws.proofs.NewRow.{all_rows}
 use Rattle.forest_laws.proofs.InsertionKeeps.{none_passes}
-use Rattle.forest_laws.proofs.Entries.{bytes_turned, pairs_in_order, untaken, entries_append, own_key, is_source, entry_at}
+use Rattle.forest_laws.proofs.EntriesByRow.{bytes_turned, pairs_in_order, untaken, entries_append, own_key, is_source, entry_at, entry_named, entry_with}
 use Rattle.forest_laws.proofs.Replacing.{renewed, renewed_key, renewed_level, renewed_name, renewed_code, both, with_mapped, path_renewed, others_stay, other_stays, others_renewed, this_renewed}
 
 none_found : {X : Type 0} (p : X → Bool) (xs : List X) → find p xs ≡ None → list_all (λ x. not (p x)) xs ≡ true
@@ -53,12 +53,6 @@ pairs_swap t xs ys x y before behind h =
 pub data Shape (types : List SegType) (index : IndexDef) (path : List Row) (row : Row) : Type 0 where
   NoEntry : ((content : List ℕ) → entry_of types index path (with_content row content) ≡ None) → Shape types index path row
   HasEntry : (target : Ilk) (root : List ℕ) → ((content : List ℕ) → entry_of types index path (with_content row content) ≡ Some (record { key = own_key types index path content; target = target; root = root })) → Shape types index path row
-
-abbrev entry_named : List SegType → List ℕ → Ilk → Option Row → Option Entry
-entry_named types key name root = option_and_then (λ (r : Row). Some (record { key = key; target = name; root = row_key types r })) root
-
-abbrev entry_with : List SegType → List ℕ → Option Row → Option Row → Option Entry
-entry_with types key target root = option_and_then (λ (t : Row). option_and_then (λ (r : Row). Some (record { key = key; target = t.name; root = row_key types r })) root) target
 
 shape_by : (types : List SegType) (index : IndexDef) (path : List Row) (row : Row) (target root : Option Row) → find (λ r. r.code == index.target) path ≡ target → slice_get path 0 ≡ root → Shape types index path row
 shape_by types index path row None root e f = NoEntry (λ content. ap (λ (o : Option Row). entry_with types (own_key types index path content) o (slice_get path 0)) e)

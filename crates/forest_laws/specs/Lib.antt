@@ -1,3 +1,5 @@
 pub mod Keeping
 pub mod Paths
 pub mod Spans
+pub mod Entries
+pub mod Examples

@@ -2,10 +2,14 @@
 //! the contract of a function without code; a proof above calls it and has the law.
 #![tactic(auto)]
 
+mod entries;
+mod examples;
 mod keeping;
 mod paths;
 mod spans;
 
+pub use entries::{entries_are_in_key_order, entries_are_of_sources};
+pub use examples::{empty_is_forest, example_is_forest};
 pub use keeping::{cut_keeps, insertion_keeps, replacement_keeps};
 pub use paths::{
     keys_are_long, paths_append, paths_are_ancestries, paths_are_by_parents, paths_begin_anew,

@@ -133,3 +133,10 @@ entry_has_key types index path row entry h = by (find (λ r. r.code == index.tar
     by (Some target) (Some root) h =
         let made : Entry = record { key = own_key types index path row.content; target = target.name; root = row_key types root } in
         ap (λ (o : Option Entry). option_map_or (λ e. e.key) o []) (sym h)
+
+-- the entry of a key, by its target and the first of its path
+abbrev pub entry_named : List SegType → List ℕ → Ilk → Option Row → Option Entry
+entry_named types key name root = option_and_then (λ (r : Row). Some (record { key = key; target = name; root = row_key types r })) root
+
+abbrev pub entry_with : List SegType → List ℕ → Option Row → Option Row → Option Entry
+entry_with types key target root = option_and_then (λ (t : Row). option_and_then (λ (r : Row). Some (record { key = key; target = t.name; root = row_key types r })) root) target

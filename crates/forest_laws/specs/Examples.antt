@@ -1,0 +1,143 @@
+-- Forests that there are, so that no law has a condition that can't be met: the empty one, and one of three levels with two indexes.
+use Rattle.std.specs.Prelude.{ℕ, Bool, true, false, ◌&&◌, [], ◌∷◌, List, Option, None, Some, codes, fold, refl, ◌≡◌, IsTrue}
+use Rattle.std.specs.List.{list_any}
+use Rattle.hal_base.specs.declared.place.Ilk.{Ilk}
+use Rattle.hal_schema.specs.declared.row.Row.{Row}
+use Rattle.hal_schema.specs.declared.schema.IndexDef.{IndexDef}
+use Rattle.hal_schema.specs.declared.schema.PartDef.{PartDef}
+use Rattle.hal_schema.specs.declared.schema.Schema.{Schema}
+use Rattle.hal_schema.specs.declared.schema.SegType.{SegType}
+use Rattle.hal_schema.specs.Forest.{is_forest}
+use Rattle.hal_schema.specs.Insertion.{inserted, may_be_inserted}
+use Rattle.hal_schema.specs.Span.{without_span, replaced, may_be_replaced}
+
+abbrev pub EmptyIsForest : Type 0
+EmptyIsForest = (schema : Schema) → IsTrue (is_forest schema [])
+
+-- R with the unique key K, below it C whose twins may have equal keys and stand last, below C the unkeyed G whose twins stand first, and U below R
+abbrev pub example_types : List SegType
+example_types =
+    record {
+      name = codes "R";
+      parent = None;
+      bytes = 5;
+      key = Some (record { start = 1; bytes = 3; unique = true });
+      first = false;
+      letter = 65;
+      fields = record { name = codes "K"; start = 1; bytes = 3 } ∷ record { name = codes "V"; start = 4; bytes = 2 } ∷ [];
+    }
+    ∷ record {
+      name = codes "C";
+      parent = Some 1;
+      bytes = 4;
+      key = Some (record { start = 1; bytes = 2; unique = false });
+      first = false;
+      letter = 65;
+      fields = record { name = codes "CK"; start = 1; bytes = 2 } ∷ [];
+    }
+    ∷ record {
+      name = codes "G";
+      parent = Some 2;
+      bytes = 2;
+      key = None;
+      first = true;
+      letter = 66;
+      fields = record { name = codes "GV"; start = 1; bytes = 2 } ∷ record { name = codes "/CKP"; start = 1; bytes = 3 } ∷ [];
+    }
+    ∷ record { name = codes "U"; parent = Some 1; bytes = 1; key = None; first = false; letter = 66; fields = [] } ∷ []
+
+-- one index finds R by V, the other C by G's field and the key of R
+abbrev pub two_indexes : List IndexDef
+two_indexes =
+    record { seg = codes "VX"; name = codes "VDB"; xdfld = codes "XV"; target = 1; source = 1; search = record { name = codes "V"; start = 4; bytes = 2 } ∷ []; subseq = [] }
+    ∷ record { seg = codes "GX"; name = codes "GDB"; xdfld = codes "XG"; target = 2; source = 3; search = record { name = codes "GV"; start = 1; bytes = 2 } ∷ []; subseq = record { name = codes "/CKP"; start = 1; bytes = 3 } ∷ [] } ∷ []
+
+abbrev pub two_parts : List PartDef
+two_parts = record { name = codes "P1"; number = 1; high = codes "500"; anchors = 1; fbff = 0; fspf = 0 } ∷ record { name = codes "P2"; number = 2; high = codes "999"; anchors = 1; fbff = 0; fspf = 0 } ∷ []
+
+abbrev pub example_schema : Schema
+example_schema = record {
+  name = codes "EXDB";
+  phdam = false;
+  rm = None;
+  anch = 1;
+  rbn = 1;
+  types = example_types;
+  indexes = two_indexes;
+  parts = two_parts;
+  blocks = 40;
+  parents = refl;
+  type_names = refl;
+  index_names = refl;
+  part_names = refl;
+  part_numbers = refl;
+  field_names = refl;
+  counts = refl;
+  fields = refl;
+  keys = refl;
+  root_key = refl;
+  letters = refl;
+  kept_indexes = refl;
+  highs = refl;
+  kept_parts = refl;
+  kept_blocks = refl;
+  names = refl;
+  module_kept = refl;
+  stored_parts = refl;
+}
+
+abbrev pub name_at : ℕ → Ilk
+name_at addr = record { addr = addr; part = 1; number = 1 }
+
+abbrev pub root_row : ℕ → List ℕ → Row
+root_row addr content = record { name = name_at addr; code = 1; parent = None; content = content }
+
+abbrev pub child_row : ℕ → ℕ → ℕ → List ℕ → Row
+child_row addr code above content = record { name = name_at addr; code = code; parent = Some (name_at above); content = content }
+
+abbrev pub example_rows : List Row
+example_rows =
+    root_row 16 (codes "001aa") ∷ child_row 32 2 16 (codes "01xx") ∷ child_row 64 3 32 (codes "g2") ∷ child_row 48 3 32 (codes "g1") ∷ child_row 80 2 16 (codes "01yy") ∷ child_row 112 4 16 (codes "u") ∷ root_row 96 (codes "700bb") ∷ []
+
+-- the rows as they came
+abbrev pub rows_as_they_came : List Row
+rows_as_they_came =
+    root_row 96 (codes "700bb") ∷ root_row 16 (codes "001aa") ∷ child_row 112 4 16 (codes "u") ∷ child_row 32 2 16 (codes "01xx") ∷ child_row 48 3 32 (codes "g1") ∷ child_row 64 3 32 (codes "g2") ∷ child_row 80 2 16 (codes "01yy") ∷ []
+
+-- each of the rows may be inserted behind those before it
+abbrev pub may_come : List Row → List Row → Bool
+may_come rows [] = true
+may_come rows (new ∷ more) = may_be_inserted example_schema rows new && may_come (inserted example_schema rows new) more
+
+-- the lists are forests only where each part of the test holds: none of these is one
+abbrev pub no_forests : List (List Row)
+no_forests =
+    -- two rows of a name
+    (root_row 16 (codes "001aa") ∷ root_row 16 (codes "700bb") ∷ [])
+    -- a row of another length
+    ∷ (root_row 16 (codes "001a") ∷ [])
+    -- a child without its parent, below another root, and below a row that isn't of the parent type
+    ∷ (child_row 32 2 16 (codes "01xx") ∷ [])
+    ∷ (root_row 16 (codes "001aa") ∷ root_row 96 (codes "700bb") ∷ child_row 32 2 16 (codes "01xx") ∷ [])
+    ∷ (root_row 16 (codes "001aa") ∷ child_row 64 3 16 (codes "g2") ∷ [])
+    -- a child of higher code before one of lower code
+    ∷ (root_row 16 (codes "001aa") ∷ child_row 112 4 16 (codes "u") ∷ child_row 32 2 16 (codes "01xx") ∷ [])
+    -- roots that fall, roots of one key, and twins that fall
+    ∷ (root_row 96 (codes "700bb") ∷ root_row 16 (codes "001aa") ∷ [])
+    ∷ (root_row 96 (codes "700bb") ∷ root_row 16 (codes "700aa") ∷ [])
+    ∷ (root_row 16 (codes "001aa") ∷ child_row 80 2 16 (codes "02yy") ∷ child_row 32 2 16 (codes "01xx") ∷ [])
+    -- a root above every high key
+    ∷ (root_row 16 (codes "~~~aa") ∷ [])
+    -- two entries of a key
+    ∷ (root_row 16 (codes "001aa") ∷ root_row 96 (codes "700aa") ∷ []) ∷ []
+
+pub record IsExample : Type 0 where
+  pub forest : is_forest example_schema example_rows ≡ true
+  pub others : list_any (is_forest example_schema) no_forests ≡ false
+  pub come : may_come [] rows_as_they_came ≡ true
+  pub made : fold (inserted example_schema) [] rows_as_they_came ≡ example_rows
+  pub cut : without_span example_types example_rows (name_at 32) ≡ root_row 16 (codes "001aa") ∷ child_row 80 2 16 (codes "01yy") ∷ child_row 112 4 16 (codes "u") ∷ root_row 96 (codes "700bb") ∷ []
+  pub may_change : may_be_replaced example_schema example_rows (name_at 96) (codes "700cc") ≡ true
+  pub changed : replaced (root_row 16 (codes "001aa") ∷ root_row 96 (codes "700bb") ∷ []) (name_at 96) (codes "700cc") ≡ root_row 16 (codes "001aa") ∷ root_row 96 (codes "700cc") ∷ []
+  pub key_changed : may_be_replaced example_schema example_rows (name_at 96) (codes "800cc") ≡ false
+  pub key_taken : may_be_replaced example_schema example_rows (name_at 96) (codes "700aa") ≡ false
