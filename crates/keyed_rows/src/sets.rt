@@ -1,7 +1,7 @@
 // A set of rows over a shelf in memory that tells nothing: its pages are laid out by the test.
 use crate::key_of;
 use hal_base::{BLOCK, SetId, Shelf, StoreFault};
-use keyed_sets::{KeyedSet, RowShape, has_place, has_room, insert_row, place_in};
+use keyed_sets::KeyedSet;
 use memory_shelf::QuietShelf;
 use std::alloc::Global;
 use std::test::Fail;
@@ -12,23 +12,21 @@ const SET: SetId = SetId {
     letter: b'X',
 };
 
-const SHAPE: RowShape = RowShape { key: 3, body: 4 };
-
-/// Puts a row of this number into a page: at its place, or in front of all rows.
-fn put_number(page: &mut [u8; BLOCK], number: u8, in_order: bool) {
-    if has_place(SHAPE, page) && has_room(SHAPE, page) {
-        let key = key_of(number);
-        let at = if in_order {
-            place_in(SHAPE, page, &key)
-        } else {
-            0
-        };
-        insert_row(SHAPE, page, at, &key, &[0, 0, 0, number]);
+/// A page with rows of these numbers, one behind the other.
+fn put_numbers(page: &mut [u8; BLOCK], numbers: &[u8]) {
+    let mut start = 16;
+    for number in numbers {
+        if start + 7 <= BLOCK {
+            page[start..start + 3].copy_from_slice(&key_of(*number));
+            page[start + 6] = *number;
+            start += 7;
+        }
     }
+    page[9] = ((start - 16) / 7).min(255) as u8;
 }
 
 /// Adds a page with rows of these numbers to the set.
-fn add_page(shelf: &mut QuietShelf, numbers: &[u8], in_order: bool) -> Result<(), Fail> {
+fn add_page(shelf: &mut QuietShelf, numbers: &[u8]) -> Result<(), Fail> {
     let Ok(n) = shelf.grow(SET, 2) else {
         return Err("grown".into());
     };
@@ -36,9 +34,7 @@ fn add_page(shelf: &mut QuietShelf, numbers: &[u8], in_order: bool) -> Result<()
     if u32::from(n) >= shelf.pages(SET) || shelf.fetch_page(SET, n, &mut page).is_err() {
         return Err("fetched".into());
     }
-    for number in numbers {
-        put_number(&mut page, *number, in_order);
-    }
+    put_numbers(&mut page, numbers);
     if shelf.stage_page(SET, n, &page).is_err() {
         return Err("staged".into());
     }
@@ -48,9 +44,9 @@ fn add_page(shelf: &mut QuietShelf, numbers: &[u8], in_order: bool) -> Result<()
 /// A shelf with two pages of rows, of which the first has the higher keys, and one of none.
 fn shelf_of(alloc: Global) -> Result<QuietShelf, Fail> {
     let mut shelf = QuietShelf::new(alloc, 4);
-    add_page(&mut shelf, &[108, 106, 107], true)?;
-    add_page(&mut shelf, &[], true)?;
-    add_page(&mut shelf, &[100, 102], true)?;
+    add_page(&mut shelf, &[106, 107, 108])?;
+    add_page(&mut shelf, &[])?;
+    add_page(&mut shelf, &[100, 102])?;
     Ok(shelf)
 }
 
@@ -146,13 +142,13 @@ fn a_row_is_removed_once(rt: HostRuntime) -> Result<(), Fail> {
 
 #[test]
 fn pages_that_are_no_set_are_said_at_their_place(rt: HostRuntime) -> Result<(), Fail> {
-    for (numbers, in_order, page, offset) in [
-        ([103, 101].as_slice(), true, 3, 16),
-        ([103, 104].as_slice(), false, 3, 23),
-        ([104, 105, 104].as_slice(), false, 3, 30),
+    for (numbers, page, offset) in [
+        ([101, 103].as_slice(), 3, 16),
+        ([104, 103].as_slice(), 3, 23),
+        ([104, 105, 104].as_slice(), 3, 30),
     ] {
         let mut shelf = shelf_of(rt.alloc())?;
-        add_page(&mut shelf, numbers, in_order)?;
+        add_page(&mut shelf, numbers)?;
         let fault = opened(rt.alloc(), &mut shelf).err().ok_or("a set")?;
         assert_eq!(rt; fault, StoreFault::BadTile { page, offset });
     }

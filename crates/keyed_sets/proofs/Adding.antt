@@ -11,9 +11,10 @@ use Rattle.keyed_sets.specs.Changes.{placed}
 use Rattle.keyed_sets.specs.Layout.{Row, rows_in, is_below, PutsRows}
 use Rattle.keyed_sets.specs.Map.{with_row}
 use Rattle.keyed_sets.specs.Places.{lower_half, upper_half, begins_upto, kept_rows, moved_rows}
-use Rattle.keyed_sets.specs.Rule.{IsRowPage, Apart, AllBelow, tables, page_rows}
-use Rattle.keyed_sets.specs.Opened.{StartsWith, IsIndex, Stands, empty_numbers}
-use Rattle.keyed_sets.specs.Opening.{AreApart}
+use Rattle.keyed_sets.specs.Rule.{IsRowPage, tables, page_rows}
+use Rattle.keyed_sets.specs.Standing.{Apart, AllBelow, StartsWith, IsIndex, Stands}
+use Rattle.keyed_sets.specs.Index.{empty_numbers}
+use Rattle.keyed_sets.specs.Taken.{AreApart}
 use Rattle.keyed_sets.proofs.Keys.{below_upto, below_trans}
 use Rattle.keyed_sets.proofs.Maps.{Rows, with_row_has, with_row_new, with_row_old, with_row_rises}
 use Rattle.keyed_sets.proofs.Members.{nothing_there, at_front, front_or, rise_one, rise-left, rise-right, rise-between}

@@ -14,10 +14,12 @@ use Rattle.keyed_sets.specs.Changes.{placed, HasSpare}
 use Rattle.keyed_sets.specs.Layout.{Row, rows_in, rows_from, count_of, end_of, is_below, row_length, PutsRows}
 use Rattle.hal_base.specs.Pages.{SameHead}
 use Rattle.keyed_sets.specs.Map.{rows_of, with_row}
-use Rattle.keyed_sets.specs.Places.{HasNoRows, first_or, second_page, IsPut, Fits, Begins, Puts, IsBegun}
+use Rattle.keyed_sets.specs.Places.{HasNoRows, first_or, second_page, IsPut, Fits, Begins, Puts}
 use Rattle.keyed_sets.specs.Rule.{KeepsRule, capacity, tables, page_rows}
-use Rattle.keyed_sets.specs.Opened.{StartsWith, Stands, empty_numbers}
-use Rattle.keyed_sets.specs.Opening.{AreApart}
+use Rattle.keyed_sets.specs.Goes.{IsBegun}
+use Rattle.keyed_sets.specs.Standing.{StartsWith, Stands}
+use Rattle.keyed_sets.specs.Index.{empty_numbers}
+use Rattle.keyed_sets.specs.Taken.{AreApart}
 use Rattle.keyed_sets.proofs.Keys.{below_itself}
 use Rattle.keyed_sets.proofs.Members.{nothing_there, at_front, the_only}
 use Rattle.keyed_sets.proofs.Tables.{page_past, page_old, page_new, first_row}

@@ -1,16 +1,18 @@
 -- What the changes of a page make of its rows.
-use Rattle.std.proofs.Common.{◌≡◌, ℕ, suc, ◌+◌, ◌-◌, ◌*◌, ◌^◌, ◌<◌, ◌≤◌, List, [], ◌∷◌, ◌++◌, length, get_or, take, drop, replicate, refl, sym, ap, subst, ◌∙◌, append_assoc, drop-cons, arith}
-use Rattle.std.specs.Prelude.{insert}
+use Rattle.std.proofs.Common.{◌≡◌, ℕ, suc, ◌+◌, ◌-◌, ◌*◌, ◌^◌, ◌<◌, ◌≤◌, List, [], ◌∷◌, ◌++◌, length, get_or, take, drop, set, replicate, Some, refl, sym, ap, subst, ◌∙◌, append_assoc, drop-cons, arith}
+use Rattle.std.specs.Prelude.{insert, slice_get}
+use Rattle.std.specs.Option.{option_map}
+use Rattle.std.proofs.lemmas.Option.{same_Some, slice_get-get_or}
 use Rattle.std.specs.List.{remove, copy_within}
 use Rattle.std.specs.Int.{w16, to_be_bytes}
-use Rattle.std.proofs.lemmas.List.{length-append, length-replicate, drop-drop, take_at, drop_at, drop-replicate, replicate-append-replicate}
+use Rattle.std.proofs.lemmas.List.{length-append, length-replicate, drop-drop, take_at, drop_at, drop-replicate, replicate-append-replicate, set_split, length-set}
 use Rattle.std.proofs.lemmas.List.Concat.{flat_map-append}
 use Rattle.keyed_sets.specs.declared.row.RowShape.{RowShape}
-use Rattle.keyed_sets.specs.Bytes.{Writes}
+use Rattle.hal_base.specs.Bytes.{Writes}
 use Rattle.keyed_sets.specs.Layout.{Row, row_length, HasShape, spelled_row, spelled, rows_in, count_of, end_of, PutsRows}
 use Rattle.keyed_sets.proofs.Rows.{AreShaped, length-spelled_row, length-rows_in, end_more}
 use Rattle.keyed_sets.proofs.Moves.{two_writes, written_between, moved_on, moved_back}
-use Rattle.keyed_sets.proofs.Puts.{Parts, parts, puts_rows, sum_of, AreShaped-append}
+use Rattle.keyed_sets.proofs.Puts.{Parts, parts, puts_rows, sum_of, AreShaped-append, reads_rows, behind_head}
 
 zeros_less : (rest : List ℕ) (gone were are : ℕ) → were - gone ≡ are → rest ≡ replicate were 0 → drop gone rest ≡ replicate are 0
 zeros_less rest gone were are less zeros = ap (drop gone) zeros ∙ drop-replicate gone were 0 ∙ ap (λ (k : ℕ). replicate k 0) less
@@ -140,3 +142,35 @@ moved shape old second mid new from start end n whole whole_second within place 
     (λ were.
     let none : drop 16 second ≡ replicate (4096 - 16) 0 = subst (λ (k : ℕ). drop k second ≡ replicate (4096 - k) 0) (ap (end_of shape) empty ∙ first) were in
     rest_of_zeros second (length b) (end_of shape n) none less)
+
+-- another body of the row of a key
+pub overwritten : (shape : RowShape) (old new key body : List ℕ) (at start : ℕ) → length old ≡ 4096 → at < count_of old → end_of shape (count_of old) ≤ 4096 → HasShape shape (key, body)
+    → option_map (λ row. row.0) (slice_get (rows_in shape old) at) ≡ Some key → start ≡ end_of shape at + shape.key → Writes old new start body → PutsRows shape old new (set (rows_in shape old) at (key, body))
+overwritten shape old new key body at start whole within place shaped keyed starts written =
+    let rows : List Row = rows_in shape old in
+    let lt : at < length rows = omega (arith, length-rows_in shape old, within) in
+    let none : Row = ([], []) in
+    let row : Row = get_or rows at none in
+    let others : List Row = drop (suc at) rows in
+    let p : Parts shape old at = parts shape old at whole (omega (arith, within)) place in
+    let cut : drop at rows ≡ row ∷ others = drop-cons rows at none lt in
+    let after_shaped : AreShaped shape (row ∷ others) = subst (AreShaped shape) cut p.after in
+    let same : row.0 ≡ key = same_Some _ _ (sym (ap (option_map (λ (r : Row). r.0)) (slice_get-get_or rows at none lt)) ∙ keyed) in
+    let head : List ℕ = take 16 old in
+    let before : List ℕ = spelled (take at rows) in
+    let front : List ℕ = (head ++ before) ++ key in
+    let rest : List ℕ = drop (end_of shape (count_of old)) old in
+    let behind : List ℕ = spelled others ++ rest in
+    let spelling : spelled (drop at rows) ++ rest ≡ key ++ (row.1 ++ behind) =
+    ap (λ (l : List Row). spelled l ++ rest) cut ∙ append_assoc (spelled_row row) (spelled others) rest ∙ append_assoc (row.0) (row.1) behind ∙ ap (λ (z : List ℕ). z ++ (row.1 ++ behind)) same in
+    let is : old ≡ front ++ (row.1 ++ behind) = p.is ∙ ap (λ (z : List ℕ). (head ++ before) ++ z) spelling ∙ sym (append_assoc (head ++ before) key (row.1 ++ behind)) in
+    let made : new ≡ front ++ (body ++ behind) =
+    written_between old new front (row.1) behind body start is (omega (arith, length-append (head ++ before) key, p.front, shaped.key, starts)) (after_shaped.0.body ∙ sym shaped.body) written in
+    let list : List Row = set rows at (key, body) in
+    let listed : spelled list ≡ before ++ ((key ++ body) ++ spelled others) = ap spelled (set_split rows at (key, body) lt) ∙ flat_map-append spelled_row (take at rows) ((key, body) ∷ others) in
+    let joined : spelled list ++ rest ≡ before ++ (key ++ (body ++ behind)) =
+    ap (λ (z : List ℕ). z ++ rest) listed ∙ append_assoc before ((key ++ body) ++ spelled others) rest ∙ ap (λ (z : List ℕ). before ++ z) (append_assoc (key ++ body) (spelled others) rest ∙ append_assoc key body behind) in
+    let whole_is : new ≡ head ++ (spelled list ++ rest) = made ∙ append_assoc (head ++ before) key (body ++ behind) ∙ append_assoc head before (key ++ (body ++ behind)) ∙ ap (λ (z : List ℕ). head ++ z) (sym joined) in
+    let b = behind_head old new (spelled list ++ rest) whole whole_is in
+    let list_shaped : AreShaped shape list = subst (AreShaped shape) (sym (set_split rows at (key, body) lt)) (AreShaped-append shape (take at rows) ((key, body) ∷ others) p.before (shaped, after_shaped.1)) in
+    reads_rows shape old new list rest (count_of old) b.head b.count (sym (length-set rows at (key, body) ∙ length-rows_in shape old)) list_shaped place b.rest (λ were. were)

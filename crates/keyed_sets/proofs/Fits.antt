@@ -12,8 +12,8 @@ use Rattle.keyed_sets.specs.Layout.{Row, rows_in, count_of, end_of, PutsRows}
 use Rattle.keyed_sets.specs.Map.{rows_of, with_row}
 use Rattle.keyed_sets.specs.Places.{IsHome, Takes, IsPut, Fits, Puts}
 use Rattle.keyed_sets.specs.Rule.{Rise, capacity, tables, page_rows}
-use Rattle.keyed_sets.specs.Opened.{StartsWith, Stands}
-use Rattle.keyed_sets.specs.Opening.{AreApart}
+use Rattle.keyed_sets.specs.Standing.{StartsWith, Stands}
+use Rattle.keyed_sets.specs.Taken.{AreApart}
 use Rattle.keyed_sets.proofs.Maps.{Rows, with_row_has, with_row_new, with_row_old, with_row_rises}
 use Rattle.keyed_sets.proofs.Members.{rise_all}
 use Rattle.keyed_sets.proofs.Sets.{IsIn, lawful}

@@ -10,10 +10,11 @@ use Rattle.keyed_sets.specs.declared.index.First.{First}
 use Rattle.keyed_sets.specs.Changes.{placed}
 use Rattle.keyed_sets.specs.Layout.{Row, rows_in, is_below, PutsRows}
 use Rattle.keyed_sets.specs.Map.{rows_of, with_row}
-use Rattle.keyed_sets.specs.Places.{Takes, kept_rows, moved_rows, IsFull}
-use Rattle.keyed_sets.specs.Rule.{Apart, capacity, tables, page_rows}
-use Rattle.keyed_sets.specs.Opened.{StartsWith, Stands}
-use Rattle.keyed_sets.specs.Opening.{AreApart}
+use Rattle.keyed_sets.specs.Places.{Takes, kept_rows, moved_rows}
+use Rattle.keyed_sets.specs.Rule.{capacity, tables, page_rows}
+use Rattle.keyed_sets.specs.Goes.{IsFull}
+use Rattle.keyed_sets.specs.Standing.{Apart, StartsWith, Stands}
+use Rattle.keyed_sets.specs.Taken.{AreApart}
 use Rattle.keyed_sets.proofs.Maps.{Rows, lookup_is}
 use Rattle.keyed_sets.proofs.Members.{nothing_there, the_only, rise_all}
 use Rattle.keyed_sets.proofs.Tables.{first_row}
@@ -39,7 +40,7 @@ halved_parts : (shape : RowShape) (pages : List (List ℕ)) (firsts : List First
     → AreParts row (rows_in shape page) (kept_rows row (rows_in shape page)) (moved_rows row (rows_in shape page))
 halved_parts shape pages firsts home p n rest page page2 second second2 row h = parts_of row (rows_in shape page) (rise_all (rows_in shape page) (page_rises shape pages p.page page h.stands.rule h.read))
 
-kept_part : (shape : RowShape) (pages : List (List ℕ)) (firsts : List First) (home : ℕ) (p : First) (n : ℕ) (rest page page2 second second2 : List ℕ) (row : Row) → Halved shape pages firsts home p n rest page page2 second second2 row
+pub kept_part : (shape : RowShape) (pages : List (List ℕ)) (firsts : List First) (home : ℕ) (p : First) (n : ℕ) (rest page page2 second second2 : List ℕ) (row : Row) → Halved shape pages firsts home p n rest page page2 second second2 row
     → Part shape pages firsts (n ∷ rest) home p page page2 row (kept_rows row (rows_in shape page))
 kept_part shape pages firsts home p n rest page page2 second second2 row h =
     let parts = halved_parts shape pages firsts home p n rest page page2 second second2 row h in
@@ -49,7 +50,7 @@ pub apart_from : (shape : RowShape) (pages : List (List ℕ)) (firsts : List Fir
 apart_from shape pages firsts home p n rest page page2 second second2 row h same =
     page_some shape pages firsts (n ∷ rest) p h.stands (home, h.within, h.is) (ap (page_rows (tables shape pages)) (sym same) ∙ nothing_at shape pages firsts n rest h.stands)
 
-kept_table : (shape : RowShape) (pages : List (List ℕ)) (firsts : List First) (home : ℕ) (p : First) (n : ℕ) (rest page page2 second second2 : List ℕ) (row : Row) → Halved shape pages firsts home p n rest page page2 second second2 row
+pub kept_table : (shape : RowShape) (pages : List (List ℕ)) (firsts : List First) (home : ℕ) (p : First) (n : ℕ) (rest page page2 second second2 : List ℕ) (row : Row) → Halved shape pages firsts home p n rest page page2 second second2 row
     → tables shape (set pages p.page page2) ≡ placed p.page (kept_rows row (rows_in shape page)) (tables shape pages)
 kept_table shape pages firsts home p n rest page page2 second second2 row h =
     let kept : List Row = kept_rows row (rows_in shape page) in

@@ -10,13 +10,13 @@ use Rattle.std.proofs.lemmas.List.Elements.{Contains-get_or}
 use Rattle.std.proofs.Math.Nat.{le-div_iff_mul-le}
 use Rattle.keyed_sets.specs.declared.row.RowShape.{RowShape}
 use Rattle.keyed_sets.specs.declared.index.First.{First}
-use Rattle.keyed_sets.specs.Goes.{GoesTo}
 use Rattle.keyed_sets.specs.Layout.{Row, rows_in, count_of, end_of, row_length, is_below, place_of}
 use Rattle.keyed_sets.specs.Map.{lookup}
 use Rattle.keyed_sets.specs.Places.{HasNoRows, Takes, IsAboveAll}
 use Rattle.keyed_sets.specs.Rule.{capacity, page_rows}
-use Rattle.keyed_sets.specs.Opened.{IsIndex}
-use Rattle.keyed_sets.specs.Opening.{AreApart}
+use Rattle.keyed_sets.specs.Goes.{GoesTo}
+use Rattle.keyed_sets.specs.Standing.{IsIndex}
+use Rattle.keyed_sets.specs.Taken.{AreApart}
 use Rattle.keyed_sets.proofs.Keys.{below_both}
 use Rattle.keyed_sets.proofs.Maps.{Rows, lookup_is, lookup_none}
 use Rattle.keyed_sets.proofs.Members.{nothing_there, rise_at}

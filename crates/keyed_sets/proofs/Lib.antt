@@ -1,3 +1,12 @@
+pub mod SecondSet
+pub mod FitSet
+pub mod Heads
+pub mod Steps
+pub mod Nexts
+pub mod Spots
+pub mod OpenSets
+pub mod Aparts
+pub mod Indexed
 pub mod Rows
 pub mod Places
 pub mod Moves

@@ -14,11 +14,11 @@ use Rattle.keyed_sets.specs.declared.index.First.{First}
 use Rattle.keyed_sets.specs.Layout.{Row, rows_in, rows_from, count_of, is_below, place_of}
 use Rattle.keyed_sets.specs.Map.{KeysRise, lookup, rows_of}
 use Rattle.keyed_sets.specs.Rule.{KeepsRule, Rise, tables, page_rows}
-use Rattle.keyed_sets.specs.Opened.{Stands, StartsWith}
+use Rattle.keyed_sets.specs.Standing.{Stands, StartsWith, no_first}
 use Rattle.keyed_sets.proofs.Keys.{below_itself}
 use Rattle.keyed_sets.proofs.Maps.{Rows, lookup_is, lookup_none}
 use Rattle.keyed_sets.proofs.Members.{rise_at, rise_one}
-use Rattle.keyed_sets.proofs.Openings.{IsSplit, no_first, split_from}
+use Rattle.keyed_sets.proofs.Openings.{IsSplit, split_from}
 use Rattle.keyed_sets.proofs.Sets.{lawful, row_in, in_rows, rows_rise, same_lookup, above_split, Here, Lower, Behind, side_of}
 
 pub nowhere : Row

@@ -225,28 +225,31 @@ without_row_rises key (row ∷ rows) rise = elim (same_or (row.0) key) [
   | inr apart ↦ subst Rows (sym (stays key row rows apart)) (λ y c. rise.0 y (without_row_has key rows rise.1 y c).0, without_row_rises key rows rise.1)
 ]
 
--- rows that rise are known by what is among them
-pub same_rows : (a b : List Row) → Rows a → Rows b → ((x : Row) → Contains a x → Contains b x) → ((x : Row) → Contains b x → Contains a x) → a ≡ b
-same_rows [] [] left right to back = refl
-same_rows [] (y ∷ ys) left right to back = absurd (nothing_there y (back y (at_front y ys)))
-same_rows (x ∷ xs) [] left right to back = absurd (nothing_there x (to x (at_front x xs)))
-same_rows (x ∷ xs) (y ∷ ys) left right to back =
+-- lists that rise are known by what is among them
+pub same_rising : {X : Type 0} (key : X → List ℕ) (a b : List X) → KeysRise key a → KeysRise key b → ((x : X) → Contains a x → Contains b x) → ((x : X) → Contains b x → Contains a x) → a ≡ b
+same_rising key [] [] left right to back = refl
+same_rising key [] (y ∷ ys) left right to back = absurd (nothing_there y (back y (at_front y ys)))
+same_rising key (x ∷ xs) [] left right to back = absurd (nothing_there x (to x (at_front x xs)))
+same_rising {X} key (x ∷ xs) (y ∷ ys) left right to back =
     let first : x ≡ y = elim (front_or y ys x (to x (at_front x xs))) [
       | inl is ↦ is
       | inr c ↦ elim (front_or x xs y (back y (at_front y ys))) [
         | inl is ↦ sym is
-        | inr d ↦ absurd (below_both (y.0) (x.0) (right.0 x c) (left.0 y d))
+        | inr d ↦ absurd (below_both (key y) (key x) (right.0 x c) (left.0 y d))
       ]
     ] in
-    let there : (z : Row) → Contains xs z → Contains ys z = λ z c. elim (front_or y ys z (to z (further x xs z c))) [
-      | inl is ↦ absurd (below_itself (x.0) (z.0) (left.0 z c) (ap (λ (r : Row). r.0) (first ∙ sym is)))
+    let there : (z : X) → Contains xs z → Contains ys z = λ z c. elim (front_or y ys z (to z (further x xs z c))) [
+      | inl is ↦ absurd (below_itself (key x) (key z) (left.0 z c) (ap key (first ∙ sym is)))
       | inr d ↦ d
     ] in
-    let again : (z : Row) → Contains ys z → Contains xs z = λ z c. elim (front_or x xs z (back z (further y ys z c))) [
-      | inl is ↦ absurd (below_itself (y.0) (z.0) (right.0 z c) (ap (λ (r : Row). r.0) (sym first ∙ sym is)))
+    let again : (z : X) → Contains ys z → Contains xs z = λ z c. elim (front_or x xs z (back z (further y ys z c))) [
+      | inl is ↦ absurd (below_itself (key y) (key z) (right.0 z c) (ap key (sym first ∙ sym is)))
       | inr d ↦ d
     ] in
-    ap (λ (r : Row). r ∷ xs) first ∙ ap (λ (l : List Row). y ∷ l) (same_rows xs ys left.1 right.1 there again)
+    ap (λ (r : X). r ∷ xs) first ∙ ap (λ (l : List X). y ∷ l) (same_rising key xs ys left.1 right.1 there again)
+
+pub same_rows : (a b : List Row) → Rows a → Rows b → ((x : Row) → Contains a x → Contains b x) → ((x : Row) → Contains b x → Contains a x) → a ≡ b
+same_rows a b left right to back = same_rising (λ (r : Row). r.0) a b left right to back
 
 -- rows of which no two have one key, in order
 pub in_order_rises : (rows : List Row) → Rows (in_order rows)

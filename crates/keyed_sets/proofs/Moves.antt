@@ -3,7 +3,7 @@ use Rattle.std.proofs.Common.{◌≡◌, ℕ, ◌+◌, ◌-◌, ◌≤◌, List,
 use Rattle.std.specs.List.{copy_within}
 use Rattle.std.proofs.lemmas.List.{length-append, length-take-le, length-drop, drop-drop, take_at, drop_at, drop-append-le}
 use Rattle.std.proofs.Math.Seq.{take-append-add}
-use Rattle.keyed_sets.specs.Bytes.{Writes}
+use Rattle.hal_base.specs.Bytes.{Writes}
 
 -- one write behind another
 pub two_writes : (old mid new : List ℕ) (at pos : ℕ) (x y : List ℕ) → at + length x ≤ length old → pos ≡ at + length x → Writes old mid at x → Writes mid new pos y → Writes old new at (x ++ y)

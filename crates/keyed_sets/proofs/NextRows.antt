@@ -14,13 +14,13 @@ use Rattle.keyed_sets.specs.declared.index.First.{First}
 use Rattle.keyed_sets.specs.Layout.{Row, rows_in, is_below, place_of}
 use Rattle.keyed_sets.specs.Map.{KeysRise, first_above, next_after, last_below, rows_of}
 use Rattle.keyed_sets.specs.Rule.{tables, page_rows}
-use Rattle.keyed_sets.specs.Opened.{StartsWith, IsIndex, Stands}
-use Rattle.keyed_sets.specs.Opening.{AreApart}
+use Rattle.keyed_sets.specs.Standing.{StartsWith, IsIndex, Stands, no_first}
+use Rattle.keyed_sets.specs.Taken.{AreApart}
 use Rattle.keyed_sets.proofs.Keys.{below_both, below_itself, below_trans, below_false, below_upto, three_ways}
 use Rattle.keyed_sets.proofs.Maps.{Rows, above_is, above_none, least_is, least_none, below_is, below_none}
 use Rattle.keyed_sets.proofs.Members.{nothing_there, at_front, further, front_or, rise_at}
 use Rattle.keyed_sets.proofs.Tables.{from_first}
-use Rattle.keyed_sets.proofs.Openings.{IsSplit, split_from, no_first, before_by_first}
+use Rattle.keyed_sets.proofs.Openings.{IsSplit, split_from, before_by_first}
 use Rattle.keyed_sets.proofs.Told.{told_at}
 use Rattle.keyed_sets.proofs.Sets.{lawful, row_in, in_rows, rows_rise, Here, Lower, Behind, side_of}
 use Rattle.keyed_sets.proofs.Lookups.{missing_at, page_is}
@@ -146,8 +146,8 @@ first_of : (key : List ℕ) (rows : List Row) → StartsWith key rows → (row :
 first_of key [] starts = absurd starts
 first_of key (row ∷ rows) starts = (row, refl, at_front row rows, starts)
 
-abbrev pub first_at : List (List Row) → List First → ℕ → Option Row
-first_at table firsts at = option_and_then (λ (first : First). slice_get (page_rows table first.page) 0) (slice_get firsts at)
+abbrev pub front_at : List (List Row) → List First → ℕ → Option Row
+front_at table firsts at = option_and_then (λ (first : First). slice_get (page_rows table first.page) 0) (slice_get firsts at)
 
 -- a row behind a place isn't below the first one there
 not_lower : (table : List (List Row)) (firsts : List First) → AreApart table → IsIndex table firsts → (at : ℕ) (p : First) → at < length firsts → get_or firsts at p ≡ p → (f : First) (k : ℕ) → at ≤ k → k < length firsts → get_or firsts k f ≡ f
@@ -166,7 +166,7 @@ not_lower table firsts apart index at p within is f k le lt same y c low =
 
 -- or it is the first of the page behind
 pub next_behind : (shape : RowShape) (pages : List (List ℕ)) (firsts : List First) (empty : List ℕ) (key : List ℕ) (at : ℕ) (p : First) → Stands shape firsts empty pages → IsSplit key firsts at → (0 < at → p ≡ get_or firsts (at - 1) p)
-    → (0 < at → first_above key (page_rows (tables shape pages) p.page) ≡ None) → first_at (tables shape pages) firsts at ≡ first_above key (rows_of shape pages)
+    → (0 < at → first_above key (page_rows (tables shape pages) p.page) ≡ None) → front_at (tables shape pages) firsts at ≡ first_above key (rows_of shape pages)
 next_behind shape pages firsts empty key at p stands split is none =
     let table : List (List Row) = tables shape pages in
     let apart = lawful shape pages stands.rule in
@@ -177,7 +177,7 @@ next_behind shape pages firsts empty key at p stands split is none =
           let here : get_or firsts at q ≡ q = get_or_default firsts at q no_first lt in
           let row = first_of q.key (page_rows table q.page) (stands.index.starts q (at, lt, here)) in
           let over : is_below key q.key ≡ true = split.above at no_first (omega arith) lt in
-          let found : first_at table firsts at ≡ Some row.0 = ap (option_and_then (λ (first : First). slice_get (page_rows table first.page) 0)) (slice_get-get_or firsts at no_first lt) ∙ row.1 in
+          let found : front_at table firsts at ≡ Some row.0 = ap (option_and_then (λ (first : First). slice_get (page_rows table first.page) 0)) (slice_get-get_or firsts at no_first lt) ∙ row.1 in
           found ∙ sym (above_is key all (rows_rise shape pages) row.0 (in_rows shape pages apart row.0 (q.page, row.2)) (ap (is_below key) row.3 ∙ over) (λ y c above low.
           let lower : is_below (y.0) q.key ≡ true = ap (is_below (y.0)) (sym row.3) ∙ low in
           elim (side_of table firsts at p p apart stands.index split.within is y (row_in shape pages y c)) [
@@ -194,7 +194,7 @@ next_behind shape pages firsts empty key at p stands split is none =
     ]
 
 -- the first row of all
-pub first_of_all : (shape : RowShape) (pages : List (List ℕ)) (firsts : List First) (empty : List ℕ) → Stands shape firsts empty pages → first_at (tables shape pages) firsts 0 ≡ next_after None (rows_of shape pages)
+pub first_of_all : (shape : RowShape) (pages : List (List ℕ)) (firsts : List First) (empty : List ℕ) → Stands shape firsts empty pages → front_at (tables shape pages) firsts 0 ≡ next_after None (rows_of shape pages)
 first_of_all shape pages firsts empty stands =
     let table : List (List Row) = tables shape pages in
     let apart = lawful shape pages stands.rule in
@@ -204,7 +204,7 @@ first_of_all shape pages firsts empty stands =
           let q : First = get_or firsts 0 no_first in
           let here : get_or firsts 0 q ≡ q = get_or_default firsts 0 q no_first lt in
           let row = first_of q.key (page_rows table q.page) (stands.index.starts q (0, lt, here)) in
-          let found : first_at table firsts 0 ≡ Some row.0 = ap (option_and_then (λ (first : First). slice_get (page_rows table first.page) 0)) (slice_get-get_or firsts 0 no_first lt) ∙ row.1 in
+          let found : front_at table firsts 0 ≡ Some row.0 = ap (option_and_then (λ (first : First). slice_get (page_rows table first.page) 0)) (slice_get-get_or firsts 0 no_first lt) ∙ row.1 in
           found ∙ sym (least_is all (rows_rise shape pages) row.0 (in_rows shape pages apart row.0 (q.page, row.2)) (λ y c low.
           let lower : is_below (y.0) q.key ≡ true = ap (is_below (y.0)) (sym row.3) ∙ low in
           elim (side_of table firsts 0 q q apart stands.index (omega arith) (λ some. absurd (omega arith)) y (row_in shape pages y c)) [
@@ -283,43 +283,3 @@ last_before shape pages firsts empty key at n p r stands cut some is place there
           below_both (r.0) (y.0) over (below_upto (y.0) p.key (r.0) below from)
       | Behind f k le lt same d ↦ cut_behind table firsts key at apart stands.index cut f k le lt same y d under
     ]))
-
-pub place_some : (key k : List ℕ) (rows : List Row) → StartsWith k rows → is_below k key ≡ true → place_of key rows ≡ 0 → ⊥
-place_some key k [] starts below none = starts
-place_some key k (row ∷ rows) starts below none =
-    let low : is_below (row.0) key ≡ true = ap (λ (x : List ℕ). is_below x key) starts ∙ below in
-    counted (is_below (row.0) key) (place_of key rows) low none
-  where
-    counted : (b : Bool) (n : ℕ) → b ≡ true → cond b (1 + n) 0 ≡ 0 → ⊥
-    counted true n so is = absurd (omega (arith, is))
-    counted false n so is = cc
-
--- a page that begins below a key has a row below it
-pub some_below : (shape : RowShape) (told : Option (List (List ℕ))) (firsts : List First) (empty : List ℕ) (p : First) (page : List ℕ) (key : List ℕ) (at : ℕ) → IfSome told (Stands shape firsts empty) → Contains firsts p → slice_get firsts at ≡ Some p
-    → IfSome told (λ pages. slice_get pages p.page ≡ Some page) → IfSome told (λ pages. (first : First) → slice_get firsts at ≡ Some first → is_below first.key key ≡ true) → place_of key (rows_in shape page) ≡ 0 → told ≡ None
-some_below shape None firsts empty p page key at stands c is there below none = refl
-some_below shape (Some pages) firsts empty p page key at stands c is there below none =
-    absurd (place_some key p.key (rows_in shape page) (subst (StartsWith p.key) (page_is shape pages p.page page there) (stands.index.starts p c)) (below p is) none)
-
-any_ok : {T E : Type 0} (r : Result T E) (P : T → Type 0) → ((t : T) → P t) → IfOk r P
-any_ok (Ok t) P holds = holds t
-any_ok (Err e) P holds = tt
-
--- what is found of a page is said of the set, where its pages are told
-pub next_ok : {E : Type 0} (r : Result (Option Row) E) (shape : RowShape) (told seen : Option (List (List ℕ))) (firsts held : List First) (empty : List ℕ) (key : List ℕ) (at from : ℕ) (p : First) → IfSome told (Stands shape firsts empty) → seen ≡ told
-    → held ≡ firsts → at ≤ length held
-    → (KeysRise (λ (first : First). first.key) held → AllWithin (λ (first : First). is_below key first.key ≡ false) held 0 at)
-    → (KeysRise (λ (first : First). first.key) held → AllWithin (λ (first : First). is_below key first.key ≡ true) held at (length held))
-    → from ≡ at → (0 < at → p ≡ get_or firsts (at - 1) p) → (0 < at → IfSome told (λ pages. None ≡ first_above key (page_rows (tables shape pages) p.page)))
-    → IfOk r (λ found. IfSome seen (λ pages. found ≡ first_at (tables shape pages) firsts from)) → IfOk r (λ found. IfSome told (λ pages. found ≡ first_above key (rows_of shape pages)))
-next_ok r shape None seen firsts held empty key at from p stands same is within upto above here first none found = any_ok r (λ found. _) (λ t. tt)
-next_ok r shape (Some pages) seen firsts held empty key at from p stands same is within upto above here first none found =
-    IfOk-weaker r (λ found. IfSome seen (λ pages. found ≡ first_at (tables shape pages) firsts from)) (λ found. found ≡ first_above key (rows_of shape pages)) (λ row so.
-    told_at seen pages (λ l. row ≡ first_at (tables shape l) firsts from) same so ∙ ap (first_at (tables shape pages) firsts) here
-    ∙ next_behind shape pages firsts empty key at p stands (split_from key firsts held at is within upto above stands.index.rise) first (λ some. sym (none some))) found
-
-pub all_ok : {E : Type 0} (r : Result (Option Row) E) (shape : RowShape) (told : Option (List (List ℕ))) (firsts : List First) (empty : List ℕ) → IfSome told (Stands shape firsts empty)
-    → IfOk r (λ found. IfSome told (λ pages. found ≡ first_at (tables shape pages) firsts 0)) → IfOk r (λ found. IfSome told (λ pages. found ≡ next_after None (rows_of shape pages)))
-all_ok r shape None firsts empty stands found = any_ok r (λ found. _) (λ t. tt)
-all_ok r shape (Some pages) firsts empty stands found =
-    IfOk-weaker r (λ found. found ≡ first_at (tables shape pages) firsts 0) (λ found. found ≡ next_after None (rows_of shape pages)) (λ row so. so ∙ first_of_all shape pages firsts empty stands) found

@@ -4,7 +4,8 @@ use Rattle.std.specs.Prelude.{Contains, insert}
 use Rattle.std.proofs.lemmas.Bool.{lt-ltb, le-ltb}
 use Rattle.std.proofs.lemmas.List.{drop_more, take_more, drop_all}
 use Rattle.keyed_sets.specs.Layout.{Row}
-use Rattle.keyed_sets.specs.Opened.{with_number, empty_numbers}
+use Rattle.keyed_sets.specs.Standing.{with_number}
+use Rattle.keyed_sets.specs.Index.{empty_numbers}
 use Rattle.keyed_sets.proofs.Members.{front_or}
 
 number_behind : (n m : ℕ) (ms : List ℕ) → m < n → with_number n (m ∷ ms) ≡ m ∷ with_number n ms

@@ -9,17 +9,15 @@ use Rattle.std.proofs.lemmas.List.Elements.{Contains-get_or}
 use Rattle.keyed_sets.specs.declared.index.First.{First}
 use Rattle.keyed_sets.specs.Layout.{Row, is_below}
 use Rattle.keyed_sets.specs.Map.{KeysRise}
-use Rattle.keyed_sets.specs.Rule.{page_rows, Apart, AllBelow}
-use Rattle.keyed_sets.specs.Opened.{StartsWith, IsIndex, empty_numbers}
-use Rattle.keyed_sets.specs.Opening.{EndsWith, AreApart, AreTaken}
+use Rattle.keyed_sets.specs.Rule.{page_rows}
+use Rattle.keyed_sets.specs.Standing.{Apart, AllBelow, StartsWith, IsIndex, no_first}
+use Rattle.keyed_sets.specs.Index.{empty_numbers}
+use Rattle.keyed_sets.specs.Taken.{EndsWith, AreApart, AreTaken}
 use Rattle.keyed_sets.proofs.Keys.{below_both, below_itself, below_false, below_upto, upto_below, three_ways}
 use Rattle.keyed_sets.proofs.Maps.{Rows}
 use Rattle.keyed_sets.proofs.Members.{nothing_there, at_front, rise_at}
 use Rattle.keyed_sets.proofs.Edited.{put_or, put_new, put_old, put_rises, holds_before, holds_behind, from_take, zip_put, zip_weaker, zip_at, zip_back, some_and}
 use Rattle.keyed_sets.proofs.Tables.{page_past, page_old, page_new, row_within, page_or, apart_turned, apart_none, first_row, last_row, from_first, upto_last, below_by_first}
-
-pub no_first : First
-no_first = record { key = []; page = 0 }
 
 abbrev Ends : List (List Row) → First → List ℕ → Type 0
 Ends table first last = EndsWith last (page_rows table first.page)

@@ -8,8 +8,11 @@ use Rattle.std.proofs.lemmas.List.Elements.{All-push}
 use Rattle.keyed_sets.specs.declared.row.RowShape.{RowShape}
 use Rattle.keyed_sets.specs.declared.index.First.{First}
 use Rattle.keyed_sets.specs.Layout.{Row, rows_in, rows_from, end_of}
-use Rattle.keyed_sets.specs.Rule.{IsRowPage, KeepsRule, BreaksAt, Apart, tables, page_rows, placed_rows, rising_count, break_place}
-use Rattle.keyed_sets.specs.Opening.{AreApart, AreTaken, TakesIn}
+use Rattle.keyed_sets.specs.Rule.{IsRowPage, KeepsRule, BreaksAt, tables, page_rows, placed_rows, rising_count, break_place}
+use Rattle.keyed_sets.specs.Standing.{Apart}
+use Rattle.keyed_sets.specs.Taken.{AreApart, AreTaken, TakesIn}
+use Rattle.keyed_sets.proofs.Aparts.{apart_from}
+use Rattle.keyed_sets.proofs.Placing.{rule_from}
 use Rattle.keyed_sets.proofs.Breaks.{all_placed, second_test}
 use Rattle.keyed_sets.proofs.Tables.{page_old, page_new}
 use Rattle.keyed_sets.proofs.Told.{told_both}
@@ -22,10 +25,8 @@ tables_more : (shape : RowShape) (pages : List (List ℕ)) (page : List ℕ) →
 tables_more shape pages page = map-append (rows_in shape) pages (page ∷ [])
 
 pub rule_more : (shape : RowShape) (pages : List (List ℕ)) (page : List ℕ) → KeepsRule shape pages → IsRowPage shape page → AreApart (tables shape pages ++ rows_in shape page ∷ []) → KeepsRule shape (pages ++ page ∷ [])
-rule_more shape pages page rule lawful apart = record {
-  each = All-push (IsRowPage shape) pages page rule.each lawful;
-  apart = λ m n lt within. subst (λ (t : List (List Row)). Apart (page_rows t m) (page_rows t n)) (sym (tables_more shape pages page)) (apart.apart m n (λ is. absurd (omega (arith, is, lt))));
-}
+rule_more shape pages page rule lawful apart =
+    rule_from shape (pages ++ page ∷ []) (All-push (IsRowPage shape) pages page rule.each lawful) (subst AreApart (sym (tables_more shape pages page)) apart)
 
 pub page_taken : (shape : RowShape) (told : Option (List (List ℕ))) (n : ℕ) (page : List ℕ) (firsts firsts2 : List First) (lasts lasts2 : List (List ℕ)) (empty empty2 : List ℕ) → IfSome told (λ pages. slice_get pages n ≡ Some page) → IsRowPage shape page
     → ((table : List (List Row)) → AreTaken table firsts lasts empty → n ≡ length table → AreTaken (table ++ rows_in shape page ∷ []) firsts2 lasts2 empty2)
@@ -78,7 +79,7 @@ page_crosses shape told n page firsts lasts empty some read lawful crosses =
       there = within;
       before = before.rule;
       breaks = λ rule.
-          let apart : Apart (page_rows (tables shape (take (n + 1) pages)) found.0) (page_rows (tables shape (take (n + 1) pages)) n) = rule.apart found.0 n found.1 (omega (arith, length-take-le (n + 1) pages (omega arith))) in
+          let apart : Apart (page_rows (tables shape (take (n + 1) pages)) found.0) (page_rows (tables shape (take (n + 1) pages)) n) = apart_from (page_rows (tables shape (take (n + 1) pages)) found.0) (page_rows (tables shape (take (n + 1) pages)) n) (rule.apart found.0 n found.1 (omega (arith, length-take-le (n + 1) pages (omega arith)))) in
           let same : Apart (page_rows (table ++ rows_in shape page ∷ []) found.0) (page_rows (table ++ rows_in shape page ∷ []) n) = subst (λ (t : List (List Row)). Apart (page_rows t found.0) (page_rows t n)) grown apart in
           found.2 (subst (λ (l : List Row). Apart l (rows_in shape page)) (page_old table (rows_in shape page) found.0 (omega (arith, found.1, counted)))
           (subst (Apart (page_rows (table ++ rows_in shape page ∷ []) found.0)) (page_new table (rows_in shape page) n counted) same));

@@ -10,9 +10,10 @@ use Rattle.keyed_sets.specs.declared.index.First.{First}
 use Rattle.keyed_sets.specs.Changes.{placed}
 use Rattle.keyed_sets.specs.Layout.{Row, rows_in, is_below, PutsRows}
 use Rattle.keyed_sets.specs.Map.{KeysRise, rows_of, with_row, without_row}
-use Rattle.keyed_sets.specs.Rule.{IsRowPage, KeepsRule, Rise, Apart, tables, page_rows}
-use Rattle.keyed_sets.specs.Opened.{StartsWith, IsIndex}
-use Rattle.keyed_sets.specs.Opening.{AreApart}
+use Rattle.keyed_sets.specs.Rule.{IsRowPage, KeepsRule, Rise, tables, page_rows}
+use Rattle.keyed_sets.specs.Standing.{Apart, StartsWith, IsIndex}
+use Rattle.keyed_sets.specs.Taken.{AreApart}
+use Rattle.keyed_sets.proofs.Aparts.{apart_to}
 use Rattle.keyed_sets.proofs.Keys.{below_itself}
 use Rattle.keyed_sets.proofs.Maps.{Rows, same_rows, with_row_has, with_row_new, with_row_old, with_row_rises, without_row_has, without_row_old, without_row_rises}
 use Rattle.keyed_sets.proofs.Members.{nothing_there, at_front, further, front_or, rise-append, rise-left, rise-right, rise-between}
@@ -108,7 +109,7 @@ row_page_put shape old new rows was put rise = record {
 }
 
 pub rule_from : (shape : RowShape) (pages : List (List ℕ)) → All (IsRowPage shape) pages → AreApart (tables shape pages) → KeepsRule shape pages
-rule_from shape pages each apart = record { each = each; apart = λ m n lt within. apart.apart m n (λ is. absurd (omega (arith, is, lt))) }
+rule_from shape pages each apart = record { each = each; apart = λ m n lt within. apart_to (page_rows (tables shape pages) m) (page_rows (tables shape pages) n) (apart.apart m n (λ is. absurd (omega (arith, is, lt)))) }
 
 -- one page written
 pub set_placed : (shape : RowShape) (pages : List (List ℕ)) (n : ℕ) (page : List ℕ) (rows : List Row) → n < length pages → rows_in shape page ≡ rows → tables shape (set pages n page) ≡ placed n rows (tables shape pages)

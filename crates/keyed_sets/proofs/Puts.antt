@@ -4,9 +4,25 @@ use Rattle.std.specs.Int.{w16, to_be_bytes, from_be_bytes}
 use Rattle.std.proofs.lemmas.Nat.{from_be_bytes-to_be_bytes_2}
 use Rattle.std.proofs.lemmas.List.{length-append, length-take-le, length-drop, drop-drop, take_at, drop_at, take-append-le, drop-append-le, take-take, drop-take, take-append-drop}
 use Rattle.std.proofs.lemmas.List.Concat.{flat_map-append}
+use Rattle.hal_base.specs.Pages.{SameHead}
 use Rattle.keyed_sets.specs.declared.row.RowShape.{RowShape}
 use Rattle.keyed_sets.specs.Layout.{Row, row_length, spelled_row, spelled, rows_from, rows_in, count_of, end_of, HasPlace, HasZeros, PutsRows}
 use Rattle.keyed_sets.proofs.Rows.{AreShaped, rows_read, rows_spelled, rows_shaped, length-spelled, length-rows_in}
+
+-- rows that are spelled behind a head that counts them
+pub reads_rows : (shape : RowShape) (old new : List ℕ) (list : List Row) (rest : List ℕ) (n : ℕ) → SameHead old new → count_of new ≡ n → n ≡ length list → AreShaped shape list → end_of shape n ≤ 4096
+    → drop 16 new ≡ spelled list ++ rest → (HasZeros shape old → rest ≡ replicate (4096 - end_of shape n) 0) → PutsRows shape old new list
+reads_rows shape old new list rest n head number counted shaped place from_rows zeros =
+    let behind : drop (end_of shape n) new ≡ rest =
+    sym (drop-drop (row_length shape * n) 16 new) ∙ ap (drop (row_length shape * n)) from_rows
+    ∙ drop_at (spelled list) rest (row_length shape * n) (length-spelled shape list shaped ∙ ap (λ (k : ℕ). row_length shape * k) (sym counted)) in
+    record {
+      head = head;
+      place = subst (λ (k : ℕ). end_of shape k ≤ 4096) (sym number) place;
+      count = number ∙ counted;
+      rows = ap (λ (k : ℕ). rows_from shape k (drop 16 new)) (number ∙ counted) ∙ ap (rows_from shape (length list)) from_rows ∙ rows_read shape list rest shaped;
+      zeros = λ were. subst (λ (k : ℕ). drop (end_of shape k) new ≡ replicate (4096 - end_of shape k) 0) (sym number) (behind ∙ zeros were);
+    }
 
 -- rows that were spelled behind the head, and counted in it
 pub puts_rows : (shape : RowShape) (old mid new : List ℕ) (list : List Row) (rest : List ℕ) (n : ℕ) → length old ≡ 4096 → n < 2 ^ 16 → n ≡ length list → AreShaped shape list → end_of shape n ≤ 4096
@@ -25,24 +41,30 @@ puts_rows shape old mid new list rest n whole small counted shaped place is put 
     let made : new ≡ mark ++ (count ++ (six ++ t)) =
     put ∙ ap (λ (z : List ℕ). z ++ count ++ drop 10 mid) front ∙ ap (λ (z : List ℕ). mark ++ count ++ z) back ∙ append_assoc mark count (six ++ t) in
     let from_count : drop 8 new ≡ count ++ (six ++ t) = ap (drop 8) made ∙ drop_at mark (count ++ (six ++ t)) 8 mark_long in
-    let number : count_of new ≡ n = ap (λ (z : List ℕ). from_be_bytes w16 (take 2 z)) from_count ∙ from_be_bytes-to_be_bytes_2 n small in
     let from_ten : drop 10 new ≡ six ++ t = sym (drop-drop 2 8 new) ∙ ap (drop 2) from_count in
-    let from_rows : drop 16 new ≡ t = sym (drop-drop 6 10 new) ∙ ap (drop 6) from_ten ∙ drop_at six t 6 six_long in
-    let read : rows_in shape new ≡ list =
-    ap (λ (k : ℕ). rows_from shape k (drop 16 new)) (number ∙ counted) ∙ ap (rows_from shape (length list)) from_rows ∙ rows_read shape list rest shaped in
-    let behind : drop (end_of shape n) new ≡ rest =
-    sym (drop-drop (row_length shape * n) 16 new) ∙ ap (drop (row_length shape * n)) from_rows
-    ∙ drop_at (spelled list) rest (row_length shape * n) (length-spelled shape list shaped ∙ ap (λ (k : ℕ). row_length shape * k) (sym counted)) in
-    let fits : HasPlace shape new = subst (λ (k : ℕ). end_of shape k ≤ 4096) (sym number) place in
+    reads_rows shape old new list rest n
+    (record { set = ap (take 8) made ∙ take_at mark (count ++ (six ++ t)) 8 mark_long; rest = ap (take 6) from_ten ∙ take_at six t 6 six_long })
+    (ap (λ (z : List ℕ). from_be_bytes w16 (take 2 z)) from_count ∙ from_be_bytes-to_be_bytes_2 n small) counted shaped place
+    (sym (drop-drop 6 10 new) ∙ ap (drop 6) from_ten ∙ drop_at six t 6 six_long) zeros
+
+-- other bytes behind the head
+pub record BehindHead (old new t : List ℕ) : Type 0 where
+  pub head : SameHead old new
+  pub count : count_of new ≡ count_of old
+  pub rest : drop 16 new ≡ t
+
+pub behind_head : (old new t : List ℕ) → length old ≡ 4096 → new ≡ take 16 old ++ t → BehindHead old new t
+behind_head old new t whole is =
+    let head : List ℕ = take 16 old in
+    let sixteen : length head ≡ 16 = length-take-le 16 old (omega arith) in
     record {
       head = record {
-        set = ap (take 8) made ∙ take_at mark (count ++ (six ++ t)) 8 mark_long;
-        rest = ap (take 6) from_ten ∙ take_at six t 6 six_long;
+        set = ap (take 8) is ∙ take-append-le 8 head t (omega arith) ∙ take-take 8 16 old (omega arith);
+        rest = ap (λ (z : List ℕ). take 6 (drop 10 z)) is ∙ ap (take 6) (drop-append-le 10 head t (omega arith)) ∙ take-append-le 6 (drop 10 head) t (omega (arith, length-drop 10 head)) ∙ ap (take 6) (drop-take 10 6 old) ∙ take-take 6 6 (drop 10 old) (omega arith);
       };
-      place = fits;
-      count = number ∙ counted;
-      rows = read;
-      zeros = λ were. subst (λ (k : ℕ). drop (end_of shape k) new ≡ replicate (4096 - end_of shape k) 0) (sym number) (behind ∙ zeros were);
+      count = ap (from_be_bytes w16) (ap (λ (z : List ℕ). take 2 (drop 8 z)) is ∙ ap (take 2) (drop-append-le 8 head t (omega arith)) ∙ take-append-le 2 (drop 8 head) t (omega (arith, length-drop 8 head))
+          ∙ ap (take 2) (drop-take 8 8 old) ∙ take-take 2 8 (drop 8 old) (omega arith));
+      rest = ap (drop 16) is ∙ drop_at head t 16 sixteen;
     }
 
 pub AreShaped-append : (shape : RowShape) (xs ys : List Row) → AreShaped shape xs → AreShaped shape ys → AreShaped shape (xs ++ ys)

@@ -1,5 +1,5 @@
 -- A row put into its page, and the page where it goes.
-use Rattle.std.proofs.Common.{◌≡◌, ◌⊎◌, ℕ, zero, suc, ◌+◌, ◌-◌, ◌<◌, ◌≤◌, Bool, true, false, cond, List, [], ◌∷◌, length, get_or, take, drop, Some, inl, inr, refl, sym, ap, subst, ◌∙◌, arith}
+use Rattle.std.proofs.Common.{◌≡◌, ◌⊎◌, ℕ, zero, suc, ◌+◌, ◌-◌, ◌<◌, ◌≤◌, Bool, true, false, cond, List, [], ◌∷◌, length, get_or, take, drop, set, Some, inl, inr, refl, sym, ap, subst, ◌∙◌, arith}
 use Rattle.std.specs.Prelude.{Contains, ◌||◌, slice_get, insert}
 use Rattle.std.specs.List.{remove}
 use Rattle.std.specs.Option.{option_map}
@@ -14,9 +14,9 @@ use Rattle.keyed_sets.specs.declared.index.First.{First}
 use Rattle.keyed_sets.specs.Layout.{Row, rows_in, count_of, is_below, place_of, PutsRows}
 use Rattle.keyed_sets.specs.Map.{with_row}
 use Rattle.keyed_sets.specs.Places.{nearer, IsHome}
-use Rattle.keyed_sets.specs.Rule.{Apart, AllBelow, page_rows}
-use Rattle.keyed_sets.specs.Opened.{StartsWith, IsIndex}
-use Rattle.keyed_sets.specs.Opening.{AreApart}
+use Rattle.keyed_sets.specs.Rule.{page_rows}
+use Rattle.keyed_sets.specs.Standing.{Apart, AllBelow, StartsWith, IsIndex}
+use Rattle.keyed_sets.specs.Taken.{AreApart}
 use Rattle.keyed_sets.proofs.Keys.{below_both, below_false, below_upto, three_ways}
 use Rattle.keyed_sets.proofs.Maps.{Rows, row_behind, row_ahead, row_over, with_row_has}
 use Rattle.keyed_sets.proofs.Members.{at_front, further, rise_at}
@@ -40,7 +40,7 @@ insert_is row (next ∷ rows) rise none = elim (three_ways (next.0) (row.0)) [
 ]
 
 -- and one over the row of its key
-pub replaced_is : (row : Row) (rows : List Row) (at : ℕ) (d : Row) → Rows rows → at < length rows → (get_or rows at d).0 ≡ row.0 → insert (remove rows at) at row ≡ with_row row rows
+pub replaced_is : (row : Row) (rows : List Row) (at : ℕ) (d : Row) → Rows rows → at < length rows → (get_or rows at d).0 ≡ row.0 → set rows at row ≡ with_row row rows
 replaced_is row [] at d rise lt is = absurd (omega (arith, lt))
 replaced_is row (next ∷ rows) zero d rise lt is = sym (row_over row next rows (sym is))
 replaced_is row (next ∷ rows) (suc at) d rise lt is =
@@ -135,15 +135,8 @@ with_row_clear key row p q rows is rise some (inr (Over above more)) = inr (λ x
   | inr old ↦ above x y (some x old.0) d
 ])
 
-pub removed_count : (shape : RowShape) (old mid : List ℕ) (at : ℕ) → PutsRows shape old mid (remove (rows_in shape old) at) → at < count_of old → count_of mid + 1 ≡ count_of old
-removed_count shape old mid at puts lt = omega (arith, puts.count, length-remove (rows_in shape old) at (omega (arith, lt, length-rows_in shape old)), length-rows_in shape old)
-
-pub replaces : (shape : RowShape) (old mid new : List ℕ) (at : ℕ) (row : Row) → PutsRows shape old mid (remove (rows_in shape old) at) → PutsRows shape mid new (insert (rows_in shape mid) at row) → PutsRows shape old new (insert (remove (rows_in shape old) at) at row)
-replaces shape old mid new at row one two =
-    puts_then shape old mid new (remove (rows_in shape old) at) (insert (remove (rows_in shape old) at) at row) one (subst (λ (l : List Row). PutsRows shape mid new (insert l at row)) one.rows two)
-
 pub sets_over : (shape : RowShape) (old new : List ℕ) (at : ℕ) (row : Row) → Rows (rows_in shape old) → at < count_of old → option_map (λ (r : Row). r.0) (slice_get (rows_in shape old) at) ≡ Some (row.0)
-    → PutsRows shape old new (insert (remove (rows_in shape old) at) at row) → PutsRows shape old new (with_row row (rows_in shape old))
+    → PutsRows shape old new (set (rows_in shape old) at row) → PutsRows shape old new (with_row row (rows_in shape old))
 sets_over shape old new at row rise lt keyed puts =
     let within : at < length (rows_in shape old) = omega (arith, lt, length-rows_in shape old) in
     subst (PutsRows shape old new) (replaced_is row (rows_in shape old) at nowhere rise within (key_at_is (rows_in shape old) at (row.0) within keyed)) puts

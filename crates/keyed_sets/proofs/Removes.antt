@@ -11,9 +11,10 @@ use Rattle.keyed_sets.specs.declared.index.First.{First}
 use Rattle.keyed_sets.specs.Changes.{placed}
 use Rattle.keyed_sets.specs.Layout.{Row, rows_in, is_below, PutsRows}
 use Rattle.keyed_sets.specs.Map.{without_row}
-use Rattle.keyed_sets.specs.Rule.{IsRowPage, KeepsRule, Apart, tables, page_rows}
-use Rattle.keyed_sets.specs.Opened.{StartsWith, IsIndex, Stands, empty_numbers, with_number}
-use Rattle.keyed_sets.specs.Opening.{AreApart}
+use Rattle.keyed_sets.specs.Rule.{IsRowPage, KeepsRule, tables, page_rows}
+use Rattle.keyed_sets.specs.Standing.{Apart, StartsWith, IsIndex, Stands, with_number}
+use Rattle.keyed_sets.specs.Index.{empty_numbers}
+use Rattle.keyed_sets.specs.Taken.{AreApart}
 use Rattle.keyed_sets.proofs.Keys.{below_itself}
 use Rattle.keyed_sets.proofs.Maps.{Rows, gone, stays}
 use Rattle.keyed_sets.proofs.Members.{nothing_there, at_front, rise_one}

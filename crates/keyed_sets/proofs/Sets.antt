@@ -10,8 +10,9 @@ use Rattle.keyed_sets.specs.declared.index.First.{First}
 use Rattle.keyed_sets.specs.Layout.{Row, rows_in, is_below}
 use Rattle.keyed_sets.specs.Map.{lookup, rows_of}
 use Rattle.keyed_sets.specs.Rule.{KeepsRule, tables, page_rows}
-use Rattle.keyed_sets.specs.Opened.{IsIndex}
-use Rattle.keyed_sets.specs.Opening.{AreApart}
+use Rattle.keyed_sets.specs.Standing.{IsIndex}
+use Rattle.keyed_sets.specs.Taken.{AreApart}
+use Rattle.keyed_sets.proofs.Aparts.{apart_from}
 use Rattle.keyed_sets.proofs.Keys.{below_itself, below_upto, three_ways}
 use Rattle.keyed_sets.proofs.Maps.{Rows, one_row, lookup_is, lookup_none, in_order_rises, in_order_has, in_order_all}
 use Rattle.keyed_sets.proofs.Members.{nothing_there, at_front, further, front_or, rise_all, rise_at}
@@ -32,8 +33,8 @@ lawful shape pages rule = record {
     | inl first ↦ elim (cases_lt n (length pages)) [
       | inl second ↦ elim (cases_order m n) [
         | inl same ↦ absurd (other same)
-        | inr (inl lt) ↦ rule.apart m n lt second
-        | inr (inr gt) ↦ apart_turned (page_rows (tables shape pages) n) (page_rows (tables shape pages) m) (rule.apart n m gt first)
+        | inr (inl lt) ↦ apart_from (page_rows (tables shape pages) m) (page_rows (tables shape pages) n) (rule.apart m n lt second)
+        | inr (inr gt) ↦ apart_turned (page_rows (tables shape pages) n) (page_rows (tables shape pages) m) (apart_from (page_rows (tables shape pages) n) (page_rows (tables shape pages) m) (rule.apart n m gt first))
       ]
       | inr le ↦ apart_turned (page_rows (tables shape pages) n) (page_rows (tables shape pages) m)
           (apart_none (page_rows (tables shape pages) n) (page_rows (tables shape pages) m) (page_past (tables shape pages) n (omega (arith, length-map pages (rows_in shape)))))

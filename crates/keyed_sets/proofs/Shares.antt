@@ -12,12 +12,13 @@ use Rattle.hal_base.specs.Pages.{SameHead}
 use Rattle.keyed_sets.specs.declared.row.RowShape.{RowShape}
 use Rattle.keyed_sets.specs.declared.index.First.{First}
 use Rattle.keyed_sets.specs.Changes.{placed}
-use Rattle.keyed_sets.specs.Goes.{IsSplitAt}
 use Rattle.keyed_sets.specs.Layout.{Row, rows_in, count_of, is_below, place_of, PutsRows}
 use Rattle.keyed_sets.specs.Map.{rows_of, with_row}
-use Rattle.keyed_sets.specs.Places.{Takes, lower_half, upper_half, begins_upto, kept_rows, moved_rows, first_or, second_page, IsFull}
-use Rattle.keyed_sets.specs.Rule.{capacity, tables, page_rows}
-use Rattle.keyed_sets.specs.Opened.{StartsWith, Stands}
+use Rattle.keyed_sets.specs.Places.{Takes, lower_half, upper_half, begins_upto, kept_rows, moved_rows, first_or, second_page}
+use Rattle.keyed_sets.specs.Rule.{Rise, capacity, tables, page_rows}
+use Rattle.keyed_sets.specs.PageFacts.{Split, middle}
+use Rattle.keyed_sets.specs.Goes.{IsSplitAt, IsFull}
+use Rattle.keyed_sets.specs.Standing.{StartsWith, Stands}
 use Rattle.keyed_sets.proofs.Keys.{below_both, below_false, below_trans, not_below}
 use Rattle.keyed_sets.proofs.Maps.{Rows, lookup_is}
 use Rattle.keyed_sets.proofs.Members.{rise_all, rise_at}
@@ -51,10 +52,6 @@ place_drop key (row ∷ rows) (suc n) le = elim (cases_Bool (is_below (row.0) ke
       absurd (omega (arith, le, none))
 ]
 
--- the place where the upper half begins
-abbrev middle : List Row → ℕ
-middle rows = length rows - length rows / 2
-
 begins_true : (key : List ℕ) (row : Row) (rows list : List Row) → list ≡ row ∷ rows → is_below (row.0) key ≡ true → begins_upto key list ≡ true
 begins_true key row rows list is below =
     ap (begins_upto key) is ∙ ap not (below_false key (row.0) (λ above. below_both (row.0) key below above))
@@ -84,22 +81,17 @@ pub record Shared (shape : RowShape) (page page2 second second2 : List ℕ) (row
   pub keeps : PutsRows shape page page2 (kept_rows row (rows_in shape page))
   pub moves : PutsRows shape second second2 (moved_rows row (rows_in shape page))
 
--- what a split makes of the two pages
-pub record Split (shape : RowShape) (page page2 second second2 : List ℕ) (row : Row) : Type 0 where
-  pub many : 1 < count_of page
-  pub up : middle (rows_in shape page) < place_of (row.0) (rows_in shape page) → PutsRows shape page page2 (lower_half (rows_in shape page)) × PutsRows shape second second2 (insert (upper_half (rows_in shape page)) (place_of (row.0) (rows_in shape page) - middle (rows_in shape page)) row)
-  pub down : place_of (row.0) (rows_in shape page) ≤ middle (rows_in shape page) → PutsRows shape page page2 (insert (lower_half (rows_in shape page)) (place_of (row.0) (rows_in shape page)) row) × PutsRows shape second second2 (upper_half (rows_in shape page))
-
-pub shares : (shape : RowShape) (page page2 second second2 : List ℕ) (row : Row) → Rows (rows_in shape page) → ((x : Row) → Contains (rows_in shape page) x → x.0 ≡ row.0 → ⊥) → Split shape page page2 second second2 row → Shared shape page page2 second second2 row
-shares shape page page2 second second2 row rise none s =
+pub shares : (shape : RowShape) (page page2 second second2 : List ℕ) (row : Row) (at : ℕ) → Rows (rows_in shape page) → ((x : Row) → Contains (rows_in shape page) x → x.0 ≡ row.0 → ⊥) → at ≡ place_of (row.0) (rows_in shape page)
+    → Split shape page page2 second second2 row at → Shared shape page page2 second second2 row
+shares shape page page2 second second2 row at rise none found s =
     let rows : List Row = rows_in shape page in
     let within : middle rows < length rows = omega (arith, s.many, length-rows_in shape page) in
     elim (cases_lt (middle rows) (place_of (row.0) rows)) [
       | inl lt ↦
           let begins = up_begins (row.0) rows within lt in
-          let puts = s.up lt in
-          let place : place_of (row.0) (upper_half rows) ≡ place_of (row.0) rows - middle rows = omega (arith, place_drop (row.0) rows (middle rows) (omega (arith, lt))) in
-          let is : insert (upper_half rows) (place_of (row.0) rows - middle rows) row ≡ with_row row (upper_half rows) =
+          let puts = s.up (omega (arith, lt, found)) in
+          let place : place_of (row.0) (upper_half rows) ≡ at - middle rows = omega (arith, place_drop (row.0) rows (middle rows) (omega (arith, lt)), found) in
+          let is : insert (upper_half rows) (at - middle rows) row ≡ with_row row (upper_half rows) =
           ap (λ (k : ℕ). insert (upper_half rows) k row) (sym place) ∙ insert_is row (upper_half rows) (upper_rises rows rise) (λ x c. none x (in_upper rows x c)) in
           record {
             keeps = subst (PutsRows shape page page2) (sym (ap (λ (b : Bool). cond b (lower_half rows) (with_row row (lower_half rows))) begins)) puts.0;
@@ -107,23 +99,23 @@ shares shape page page2 second second2 row rise none s =
           }
       | inr le ↦
           let begins = down_begins (row.0) rows rise none within le in
-          let puts = s.down le in
-          let is : insert (lower_half rows) (place_of (row.0) rows) row ≡ with_row row (lower_half rows) =
-          ap (λ (k : ℕ). insert (lower_half rows) k row) (sym (place_take (row.0) rows (middle rows) le)) ∙ insert_is row (lower_half rows) (lower_rises rows rise) (λ x c. none x (in_lower rows x c)) in
+          let puts = s.down (omega (arith, le, found)) in
+          let is : insert (lower_half rows) at row ≡ with_row row (lower_half rows) =
+          ap (λ (k : ℕ). insert (lower_half rows) k row) (found ∙ sym (place_take (row.0) rows (middle rows) le)) ∙ insert_is row (lower_half rows) (lower_rises rows rise) (λ x c. none x (in_lower rows x c)) in
           record {
             keeps = subst (PutsRows shape page page2) (is ∙ sym (ap (λ (b : Bool). cond b (lower_half rows) (with_row row (lower_half rows))) begins)) puts.0;
             moves = subst (PutsRows shape second second2) (sym (ap (λ (b : Bool). cond b (with_row row (upper_half rows)) (upper_half rows)) begins)) puts.1;
           }
     ]
 
-pub split_heads : (shape : RowShape) (page page2 second second2 : List ℕ) (row : Row) → Split shape page page2 second second2 row → SameHead page page2 × SameHead second second2
-split_heads shape page page2 second second2 row s = elim (cases_lt (middle (rows_in shape page)) (place_of (row.0) (rows_in shape page))) [
+pub split_heads : (shape : RowShape) (page page2 second second2 : List ℕ) (row : Row) (at : ℕ) → Split shape page page2 second second2 row at → SameHead page page2 × SameHead second second2
+split_heads shape page page2 second second2 row at s = elim (cases_lt (middle (rows_in shape page)) at) [
   | inl lt ↦ let puts = s.up lt in (puts.0.head, puts.1.head)
   | inr le ↦ let puts = s.down le in (puts.0.head, puts.1.head)
 ]
 
 -- told or not
-pub record HalvedTold (shape : RowShape) (told told2 : Option (List (List ℕ))) (firsts : List First) (empty : List ℕ) (home : ℕ) (p : First) (page page2 second second2 : List ℕ) (row : Row) : Type 0 where
+pub record HalvedTold (shape : RowShape) (told told2 : Option (List (List ℕ))) (firsts : List First) (empty : List ℕ) (home : ℕ) (p : First) (page page2 second second2 : List ℕ) (row : Row) (at : ℕ) : Type 0 where
   pub stands : IfSome told (Stands shape firsts empty)
   pub within : home < length firsts
   pub is : get_or firsts home p ≡ p
@@ -131,23 +123,25 @@ pub record HalvedTold (shape : RowShape) (told told2 : Option (List (List ℕ)))
   pub some : 0 < length empty
   pub found : (n : ℕ) → slice_get empty 0 ≡ Some n → IfSome told (λ pages. slice_get pages n ≡ Some second)
   pub full : IfSome told (λ pages. IsFull (capacity shape) (row.0) (tables shape pages) p.page)
-  pub split : Split shape page page2 second second2 row
+  pub place : Rise (rows_in shape page) → at ≡ place_of (row.0) (rows_in shape page)
+  pub split : Split shape page page2 second second2 row at
   pub staged : told2 ≡ option_map (λ pages. set pages p.page page2) told
 
-halved_at : (shape : RowShape) (pages : List (List ℕ)) (told2 : Option (List (List ℕ))) (firsts : List First) (n : ℕ) (rest : List ℕ) (home : ℕ) (p : First) (page page2 second second2 : List ℕ) (row : Row) → HalvedTold shape (Some pages) told2 firsts (n ∷ rest) home p page page2 second second2 row
+pub halved_at : (shape : RowShape) (pages : List (List ℕ)) (told2 : Option (List (List ℕ))) (firsts : List First) (n : ℕ) (rest : List ℕ) (home : ℕ) (p : First) (page page2 second second2 : List ℕ) (row : Row) (at : ℕ) → HalvedTold shape (Some pages) told2 firsts (n ∷ rest) home p page page2 second second2 row at
     → Halved shape pages firsts home p n rest page page2 second second2 row
-halved_at shape pages told2 firsts n rest home p page page2 second second2 row t =
-    let rise : Rows (rows_in shape page) = rise_all (rows_in shape page) (page_rises shape pages p.page page t.stands.rule t.read) in
-    let shared = shares shape page page2 second second2 row rise
-    (λ x c is. t.full.full (subst (Takes (capacity shape) (row.0)) (sym (page_is shape pages p.page page t.read)) (inl (ap is_some (lookup_is (row.0) (rows_in shape page) rise x c is))))) t.split in
+halved_at shape pages told2 firsts n rest home p page page2 second second2 row at t =
+    let rises = page_rises shape pages p.page page t.stands.rule t.read in
+    let rise : Rows (rows_in shape page) = rise_all (rows_in shape page) rises in
+    let shared = shares shape page page2 second second2 row at rise
+    (λ x c is. t.full.full (subst (Takes (capacity shape) (row.0)) (sym (page_is shape pages p.page page t.read)) (inl (ap is_some (lookup_is (row.0) (rows_in shape page) rise x c is))))) (t.place rises) t.split in
     record { stands = t.stands; within = t.within; is = t.is; read = t.read; found = t.found n refl; keeps = shared.keeps; moves = shared.moves; full = t.full }
 
-pub halved_told : (shape : RowShape) (told told2 told3 : Option (List (List ℕ))) (firsts : List First) (empty : List ℕ) (home : ℕ) (p : First) (page page2 second second2 : List ℕ) (row : Row) (z : List ℕ) → HalvedTold shape told told2 firsts empty home p page page2 second second2 row
+pub halved_told : (shape : RowShape) (told told2 told3 : Option (List (List ℕ))) (firsts : List First) (empty : List ℕ) (home : ℕ) (p : First) (page page2 second second2 : List ℕ) (row : Row) (at : ℕ) (z : List ℕ) → HalvedTold shape told told2 firsts empty home p page page2 second second2 row at
     → StartsWith z (rows_in shape page2) → ((n : ℕ) → slice_get empty 0 ≡ Some n → told3 ≡ option_map (λ pages. set pages n second2) told2) → IsSplitAt shape row p.page told told3
-halved_told shape None told2 told3 firsts empty home p page page2 second second2 row z t starts added = record { pages = tt; rows = tt }
-halved_told shape (Some pages) told2 told3 firsts [] home p page page2 second second2 row z t starts added = absurd (omega (arith, t.some))
-halved_told shape (Some pages) told2 told3 firsts (n ∷ rest) home p page page2 second second2 row z t starts added =
-    let h = halved_at shape pages told2 firsts n rest home p page page2 second second2 row t in
+halved_told shape None told2 told3 firsts empty home p page page2 second second2 row at z t starts added = record { pages = tt; rows = tt }
+halved_told shape (Some pages) told2 told3 firsts [] home p page page2 second second2 row at z t starts added = absurd (omega (arith, t.some))
+halved_told shape (Some pages) told2 told3 firsts (n ∷ rest) home p page page2 second second2 row at z t starts added =
+    let h = halved_at shape pages told2 firsts n rest home p page page2 second second2 row at t in
     let rows : List Row = rows_in shape page in
     let table : List (List Row) = tables shape pages in
     let same : page_rows table p.page ≡ rows = page_is shape pages p.page page t.read in
@@ -162,29 +156,15 @@ halved_told shape (Some pages) told2 told3 firsts (n ∷ rest) home p page page2
       rows = subst (λ o. IsSomeAnd o (λ after. rows_of shape after ≡ with_row row (rows_of shape pages))) (sym now) (halved_rows shape pages firsts home p n rest page page2 second second2 row z h begins);
     }
 
-pub halved_index : (shape : RowShape) (told told2 told3 : Option (List (List ℕ))) (firsts : List First) (empty : List ℕ) (home : ℕ) (p : First) (page page2 second second2 : List ℕ) (row : Row) (z y : List ℕ) (n : ℕ) → HalvedTold shape told told2 firsts empty home p page page2 second second2 row
+pub halved_index : (shape : RowShape) (told told2 told3 : Option (List (List ℕ))) (firsts : List First) (empty : List ℕ) (home : ℕ) (p : First) (page page2 second second2 : List ℕ) (row : Row) (at : ℕ) (z y : List ℕ) (n : ℕ) → HalvedTold shape told told2 firsts empty home p page page2 second second2 row at
     → StartsWith z (rows_in shape page2) → StartsWith y (rows_in shape second2) → slice_get empty 0 ≡ Some n → told3 ≡ option_map (λ pages. set pages n second2) told2
     → IfSome told3 (Stands shape (insert (set firsts home (record { key = z; page = p.page })) (home + 1) (record { key = y; page = n })) (remove empty 0))
-halved_index shape None told2 told3 firsts empty home p page page2 second second2 row z y n t starts begins is added =
+halved_index shape None told2 told3 firsts empty home p page page2 second second2 row at z y n t starts begins is added =
     subst (λ o. IfSome o (Stands shape (insert (set firsts home (record { key = z; page = p.page })) (home + 1) (record { key = y; page = n })) (remove empty 0))) (sym (added ∙ ap (option_map (λ (l : List (List ℕ)). set l n second2)) t.staged)) tt
-halved_index shape (Some pages) told2 told3 firsts [] home p page page2 second second2 row z y n t starts begins is added = absurd (omega (arith, t.some))
-halved_index shape (Some pages) told2 told3 firsts (m ∷ rest) home p page page2 second second2 row z y n t starts begins is added =
-    let h = halved_at shape pages told2 firsts m rest home p page page2 second second2 row t in
+halved_index shape (Some pages) told2 told3 firsts [] home p page page2 second second2 row at z y n t starts begins is added = absurd (omega (arith, t.some))
+halved_index shape (Some pages) told2 told3 firsts (m ∷ rest) home p page page2 second second2 row at z y n t starts begins is added =
+    let h = halved_at shape pages told2 firsts m rest home p page page2 second second2 row at t in
     let same : m ≡ n = same_Some _ _ is in
     subst (λ o. IfSome o (Stands shape (insert (set firsts home (record { key = z; page = p.page })) (home + 1) (record { key = y; page = n })) rest)) (sym (added ∙ ap (option_map (λ (l : List (List ℕ)). set l n second2)) t.staged))
     (subst (λ (k : ℕ). Stands shape (insert (set firsts home (record { key = z; page = p.page })) (home + 1) (record { key = y; page = k })) rest (set (set pages p.page page2) k second2)) same
     (halved_stands shape pages firsts home p m rest page page2 second second2 row z y h (subst (StartsWith z) h.keeps.rows starts) (subst (StartsWith y) h.moves.rows begins)))
-
-pub halved_head : (shape : RowShape) (told told2 : Option (List (List ℕ))) (firsts : List First) (empty : List ℕ) (home : ℕ) (p : First) (page page2 second second2 : List ℕ) (row : Row) → HalvedTold shape told told2 firsts empty home p page page2 second second2 row
-    → IfSome told2 (λ pages. (n : ℕ) → slice_get empty 0 ≡ Some n → IfSome (slice_get pages n) (λ old. SameHead old second2))
-halved_head shape None told2 firsts empty home p page page2 second second2 row t =
-    subst (λ o. IfSome o (λ pages. (n : ℕ) → slice_get empty 0 ≡ Some n → IfSome (slice_get pages n) (λ old. SameHead old second2))) (sym t.staged) tt
-halved_head shape (Some pages) told2 firsts [] home p page page2 second second2 row t = absurd (omega (arith, t.some))
-halved_head shape (Some pages) told2 firsts (m ∷ rest) home p page page2 second second2 row t =
-    let h = halved_at shape pages told2 firsts m rest home p page page2 second second2 row t in
-    let apart = apart_from shape pages firsts home p m rest page page2 second second2 row h in
-    let there : slice_get (set pages p.page page2) m ≡ Some second = read_other pages m p.page second page2 apart h.found in
-    subst (λ o. IfSome o (λ pages. (n : ℕ) → slice_get (m ∷ rest) 0 ≡ Some n → IfSome (slice_get pages n) (λ old. SameHead old second2))) (sym t.staged)
-    (λ n is.
-    let same : m ≡ n = same_Some _ _ is in
-    subst (λ (k : ℕ). IfSome (slice_get (set pages p.page page2) k) (λ old. SameHead old second2)) same (subst (λ o. IfSome o (λ old. SameHead old second2)) (sym there) (split_heads shape page page2 second second2 row t.split).1))

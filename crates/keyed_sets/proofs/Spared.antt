@@ -5,12 +5,13 @@ use Rattle.std.proofs.lemmas.List.{length-take-le, take-append-le, drop-append-l
 use Rattle.keyed_sets.specs.declared.row.RowShape.{RowShape}
 use Rattle.keyed_sets.specs.declared.index.First.{First}
 use Rattle.keyed_sets.specs.Changes.{placed, HasSpare}
-use Rattle.keyed_sets.specs.Goes.{IsSplitAt}
 use Rattle.keyed_sets.specs.Layout.{Row, row_length}
 use Rattle.keyed_sets.specs.Map.{rows_of, with_row}
-use Rattle.keyed_sets.specs.Places.{nearer, IsHome, Takes, lower_half, upper_half, begins_upto, kept_rows, moved_rows, second_page, IsPut, Splits, Puts, IsFull}
+use Rattle.keyed_sets.specs.Places.{nearer, IsHome, Takes, lower_half, upper_half, begins_upto, kept_rows, moved_rows, second_page, IsPut, Splits, Puts}
 use Rattle.keyed_sets.specs.Rule.{capacity, tables, page_rows}
-use Rattle.keyed_sets.specs.Opened.{Stands, empty_numbers}
+use Rattle.keyed_sets.specs.Goes.{IsSplitAt, IsFull}
+use Rattle.keyed_sets.specs.Standing.{Stands}
+use Rattle.keyed_sets.specs.Index.{empty_numbers}
 use Rattle.keyed_sets.proofs.Maps.{with_row_new, same_rows}
 use Rattle.keyed_sets.proofs.Members.{nothing_there, at_front}
 use Rattle.keyed_sets.proofs.Tables.{row_within}

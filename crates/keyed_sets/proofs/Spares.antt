@@ -6,14 +6,15 @@ use Rattle.std.specs.Option.{option_map}
 use Rattle.std.proofs.lemmas.List.{length-append, length-map, drop_at, drop-drop, map-append, replicate-append-replicate}
 use Rattle.std.proofs.lemmas.List.Elements.{All-weaker}
 use Rattle.hal_base.specs.declared.pages.SetId.{SetId}
-use Rattle.hal_base.specs.Pages.{empty_page, page_head, SameSets}
+use Rattle.hal_base.specs.Pages.{empty_page, page_head}
 use Rattle.keyed_sets.specs.declared.row.RowShape.{RowShape}
 use Rattle.keyed_sets.specs.declared.index.First.{First}
-use Rattle.keyed_sets.specs.Changes.{HasSpare, MayGrow, OnlyWritten}
+use Rattle.keyed_sets.specs.Changes.{HasSpare}
 use Rattle.keyed_sets.specs.Layout.{Row, rows_in, rows_from, count_of, end_of}
 use Rattle.keyed_sets.specs.Rule.{IsRowPage, rising_count, tables, page_rows}
-use Rattle.keyed_sets.specs.Opened.{StartsWith, IsIndex, Stands, IsOpened, empty_numbers}
-use Rattle.keyed_sets.specs.Opening.{AreApart}
+use Rattle.keyed_sets.specs.Standing.{StartsWith, IsIndex, Stands}
+use Rattle.keyed_sets.specs.Index.{empty_numbers}
+use Rattle.keyed_sets.specs.Taken.{AreApart}
 use Rattle.keyed_sets.proofs.Members.{nothing_there}
 use Rattle.keyed_sets.proofs.Tables.{page_old, row_within, page_or, apart_turned, apart_none, first_row}
 use Rattle.keyed_sets.proofs.Openings.{apart_more, numbers_last}
@@ -83,54 +84,3 @@ grown_stands shape pages firsts set n stands is =
       });
       empty_pages = ap (λ (l : List ℕ). l ++ n ∷ []) stands.empty_pages ∙ ap (λ (k : ℕ). empty_numbers 0 table ++ k ∷ []) (omega (arith, is, length-map pages (rows_in shape))) ∙ sym (numbers_last 0 table) ∙ ap (empty_numbers 0) (sym grown);
     }
-
-pub same_spare : (shape : RowShape) (told : Option (List (List ℕ))) → IfSome told (λ pages. IsSomeAnd told (λ after. HasSpare (tables shape pages) (tables shape after)))
-same_spare shape None = tt
-same_spare shape (Some pages) = inl refl
-
-pub grown_spare : (shape : RowShape) (told told2 : Option (List (List ℕ))) (firsts : List First) (empty : List ℕ) (set : SetId) (n : ℕ) → IfSome told (Stands shape firsts empty) → empty ≡ [] → told2 ≡ option_map (λ pages. pages ++ empty_page 2 set n ∷ []) told
-    → IfSome told (λ pages. IsSomeAnd told2 (λ after. HasSpare (tables shape pages) (tables shape after)))
-grown_spare shape None told2 firsts empty set n stands none grown = tt
-grown_spare shape (Some pages) told2 firsts empty set n stands none grown =
-    subst (λ o. IsSomeAnd o (λ after. HasSpare (tables shape pages) (tables shape after))) (sym grown) (inr (grown_table shape pages set n, sym stands.empty_pages ∙ none))
-
-pub grown_told : (shape : RowShape) (told told2 : Option (List (List ℕ))) (firsts : List First) (empty : List ℕ) (set : SetId) (n count : ℕ) → IfSome told (Stands shape firsts empty) → empty ≡ [] → IfSome told (λ pages. length pages ≡ count) → n ≡ count
-    → told2 ≡ option_map (λ pages. pages ++ empty_page 2 set n ∷ []) told → IfSome told2 (Stands shape firsts (n ∷ []))
-grown_told shape None told2 firsts empty set n count stands none long is grown = subst (λ o. IfSome o (Stands shape firsts (n ∷ []))) (sym grown) tt
-grown_told shape (Some pages) told2 firsts empty set n count stands none long is grown =
-    subst (λ o. IfSome o (Stands shape firsts (n ∷ []))) (sym grown) (grown_stands shape pages firsts set n (subst (λ (l : List ℕ). Stands shape firsts l pages) none stands) (is ∙ sym long))
-
-pub grown_opened : (shape : RowShape) (told told2 : Option (List (List ℕ))) (firsts : List First) (empty : List ℕ) (set : SetId) (n count count2 : ℕ) → IsOpened shape firsts empty count told → empty ≡ [] → IfSome told (λ pages. length pages ≡ count) → n ≡ count → count2 ≡ count + 1
-    → told2 ≡ option_map (λ pages. pages ++ empty_page 2 set n ∷ []) told → IsOpened shape firsts (n ∷ []) count2 told2
-grown_opened shape told told2 firsts empty set n count count2 opened none long is more grown = record {
-  firsts_within = All-weaker (λ (f : First). f.page < count) (λ (f : First). f.page < count2) (λ f lt. omega (arith, lt, more)) firsts opened.firsts_within;
-  empty_within = λ k d lt. one k d lt;
-  stands = grown_told shape told told2 firsts empty set n count opened.stands none long is grown;
-}
-  where
-    one : (k : ℕ) (d : ℕ) → k < length (n ∷ []) → get_or (n ∷ []) k d < count2
-    one zero d lt = omega (arith, is, more)
-    one (suc k) d lt = absurd (omega (arith, lt))
-
--- shelves that may have grown
-pub same_grow : {S : Type 0} (told : S → SetId → Option (List (List ℕ))) (standing : S → SetId → List ℕ) (left : S → List ℕ) (goes : S → S → Type 0) (set : SetId) (a b : S) → SameSets (told a) (told b) → SameSets (standing a) (standing b) → left b ≡ left a → goes a b → MayGrow told standing left goes set a b
-same_grow told standing left goes set a b pages places free steady = record { others = λ other apart. pages other; other_places = λ other apart. places other; block = inl (places set, free); steady = steady }
-
-pub grow_read : {S : Type 0} (told : S → SetId → Option (List (List ℕ))) (standing : S → SetId → List ℕ) (left : S → List ℕ) (goes : S → S → Type 0) (set : SetId) (a b c : S) → ((a b c : S) → goes a b → goes b c → goes a c) → MayGrow told standing left goes set a b → OnlyWritten told standing left goes set b c → MayGrow told standing left goes set a c
-grow_read told standing left goes set a b c on first second = record {
-  others = λ other apart. second.others other apart ∙ first.others other apart;
-  other_places = λ other apart. second.places other ∙ first.other_places other apart;
-  block = elim first.block [
-    | inl same ↦ inl (second.places set ∙ same.0, second.free ∙ same.1)
-    | inr grown ↦ inr (grown.0, grown.1 ∙ ap (λ (l : List ℕ). grown.0 ∷ l) (sym second.free), second.places set ∙ grown.2)
-  ];
-  steady = on a b c first.steady second.steady;
-}
-
-pub none_there : (shape : RowShape) (told : Option (List (List ℕ))) (firsts : List First) (empty : List ℕ) (n : ℕ) (page : List ℕ) → IfSome told (Stands shape firsts empty) → 0 < length empty → n ≡ get_or empty 0 n → IfSome told (λ pages. slice_get pages n ≡ Some page) → 0 < count_of page → told ≡ None
-none_there shape None firsts empty n page stands some is read many = refl
-none_there shape (Some pages) firsts [] n page stands some is read many = absurd (omega (arith, some))
-none_there shape (Some pages) firsts (m ∷ rest) n page stands some is read many =
-    let nothing = nothing_at shape pages firsts m rest stands in
-    let rows : rows_in shape page ≡ [] = sym (page_is shape pages n page read) ∙ ap (page_rows (tables shape pages)) is ∙ nothing in
-    absurd (omega (arith, many, ap (λ (l : List Row). length l) rows, length-rows_in shape page))

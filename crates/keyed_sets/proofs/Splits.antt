@@ -6,9 +6,9 @@ use Rattle.keyed_sets.specs.declared.row.RowShape.{RowShape}
 use Rattle.keyed_sets.specs.declared.index.First.{First}
 use Rattle.keyed_sets.specs.Layout.{Row, rows_in, is_below, PutsRows}
 use Rattle.keyed_sets.specs.Places.{nearer, IsHome}
-use Rattle.keyed_sets.specs.Rule.{Apart, AllBelow, tables, page_rows}
-use Rattle.keyed_sets.specs.Opened.{StartsWith, Stands}
-use Rattle.keyed_sets.specs.Opening.{AreApart}
+use Rattle.keyed_sets.specs.Rule.{tables, page_rows}
+use Rattle.keyed_sets.specs.Standing.{Apart, AllBelow, StartsWith, Stands}
+use Rattle.keyed_sets.specs.Taken.{AreApart}
 use Rattle.keyed_sets.proofs.Keys.{below_both, below_itself, below_upto, upto_below, below_trans}
 use Rattle.keyed_sets.proofs.Maps.{Rows}
 use Rattle.keyed_sets.proofs.Members.{nothing_there, at_front}

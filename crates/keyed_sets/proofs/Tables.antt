@@ -6,9 +6,9 @@ use Rattle.std.proofs.lemmas.Option.{same_Some, none-some}
 use Rattle.std.proofs.lemmas.Bool.{cases_order, cases_lt}
 use Rattle.std.proofs.lemmas.List.{get_or_append_left, get_or_push, get_or_past, length_push}
 use Rattle.keyed_sets.specs.Layout.{Row, is_below}
-use Rattle.keyed_sets.specs.Rule.{page_rows, Apart, AllBelow}
-use Rattle.keyed_sets.specs.Opened.{StartsWith}
-use Rattle.keyed_sets.specs.Opening.{EndsWith}
+use Rattle.keyed_sets.specs.Rule.{page_rows}
+use Rattle.keyed_sets.specs.Standing.{Apart, AllBelow, StartsWith}
+use Rattle.keyed_sets.specs.Taken.{EndsWith}
 use Rattle.keyed_sets.proofs.Keys.{below_both, below_itself, below_false}
 use Rattle.keyed_sets.proofs.Maps.{Rows}
 use Rattle.keyed_sets.proofs.Members.{nothing_there, at_front, further, front_or}

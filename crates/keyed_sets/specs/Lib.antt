@@ -1,10 +1,15 @@
-pub mod Bytes
+-- what a caller reads
+pub mod Calls
 pub mod Changes
+pub mod Index
 pub mod Layout
 pub mod Map
-pub mod Opened
-pub mod Opening
 pub mod Places
 pub mod Rule
-pub mod Shelves
+-- words of the private functions
 pub mod Goes
+pub mod PageFacts
+pub mod Reading
+pub mod Standing
+pub mod Taken
+pub mod Writing

@@ -4,8 +4,8 @@ use Rattle.keyed_sets.specs.declared.row.RowShape.{RowShape}
 use Rattle.keyed_sets.specs.Layout.{Row, is_below}
 use Rattle.keyed_sets.specs.Map.{lookup, rows_of, with_row}
 use Rattle.keyed_sets.specs.Rule.{capacity, tables, page_rows}
-use Rattle.keyed_sets.specs.Opened.{empty_numbers}
-use Rattle.keyed_sets.specs.Changes.{placed}
+use Rattle.keyed_sets.specs.Changes.{placed, HasSpare}
+use Rattle.keyed_sets.specs.Index.{empty_numbers}
 
 -- A key goes to the first of two pages rather than to the second: to the one that begins higher of those that don't begin
 -- above it, or to the one that begins lower where both begin above it.
@@ -66,18 +66,14 @@ pub data NeedsPage (most : ℕ) (key : List ℕ) (table : List (List Row)) : Typ
   NoPage : table ≡ [] → NeedsPage most key table
   NoneEmpty : (n : ℕ) → IsHome key table n → (Takes most key (page_rows table n) → ⊥) → empty_numbers 0 table ≡ [] → NeedsPage most key table
 
+-- What a put that ended with a fault leaves: the pages as they were, with one more at most that has no rows; or with it
+-- a full page without the upper half of its rows, which stand nowhere then.
+pub data PutLeaves (most : ℕ) (row : Row) (before after : List (List Row)) : Type 0 where
+  AsBefore : HasSpare before after → PutLeaves most row before after
+  Halved : (n : ℕ) → IsHome (row.0) before n → (Takes most (row.0) (page_rows before n) → ⊥) → (IsAboveAll (row.0) before → ⊥) → (spared : List (List Row)) → HasSpare before spared
+      → after ≡ placed n (kept_rows row (page_rows before n)) spared → PutLeaves most row before after
+
 -- the same where the pages are told, and the list of all rows with it
 pub record Puts (shape : RowShape) (row : Row) (old new : Option (List (List ℕ))) : Type 0 where
   pub pages : IfSome old (λ before. IsSomeAnd new (λ after. IsPut (capacity shape) row (tables shape before) (tables shape after)))
   pub rows : IfSome old (λ before. IsSomeAnd new (λ after. rows_of shape after ≡ with_row row (rows_of shape before)))
-
--- a second page is begun by the row of this key alone
-pub record IsBegun (most : ℕ) (key : List ℕ) (table : List (List Row)) : Type 0 where
-  pub above : IsAboveAll key table
-  pub full : HasNoRows table ⊎ ((n : ℕ) × IsHome key table n × (Takes most key (page_rows table n) → ⊥))
-
--- a page that is full and has a place for this key below other rows of the set
-pub record IsFull (most : ℕ) (key : List ℕ) (table : List (List Row)) (n : ℕ) : Type 0 where
-  pub home : IsHome key table n
-  pub full : Takes most key (page_rows table n) → ⊥
-  pub amid : IsAboveAll key table → ⊥

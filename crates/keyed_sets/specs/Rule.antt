@@ -1,5 +1,6 @@
 -- When a page by itself is a page of rows, when pages are those of a set, as soundness rule 3 asks, and where they first aren't.
-use Rattle.std.specs.Prelude.{◌≡◌, ◌⊎◌, ℕ, suc, ◌+◌, ◌/◌, ◌<◌, ◌==◌, ◌&&◌, nat_lt, min, IsTrue, if◌then◌else◌, List, [], ◌∷◌, length, map, take, drop, slice_index, slice_index_or, All, Contains}
+use Rattle.std.specs.Prelude.{◌≡◌, ℕ, suc, ◌+◌, ◌/◌, ◌<◌, ◌==◌, ◌&&◌, ◌||◌, Bool, nat_lt, min, IsTrue, if◌then◌else◌, List, [], ◌∷◌, length, map, take, drop, slice_index, slice_index_or, All}
+use Rattle.std.specs.List.{list_all}
 use Rattle.keyed_sets.specs.declared.row.RowShape.{RowShape}
 use Rattle.keyed_sets.specs.Layout.{Row, row_length, rows_from, rows_in, count_of, end_of, HasPlace, HasZeros, is_below}
 
@@ -41,17 +42,17 @@ abbrev pub page_rows : List (List Row) → ℕ → List Row
 page_rows table n = slice_index_or table n []
 
 -- all keys of one page are below all keys of the other
-abbrev pub AllBelow : List Row → List Row → Type 0
-AllBelow a b = (x y : Row) → Contains a x → Contains b y → IsTrue (is_below (x.0) (y.0))
+abbrev pub all_below : List Row → List Row → Bool
+all_below a b = list_all (λ x. list_all (λ y. is_below (x.0) (y.0)) b) a
 
 -- the ranges of their keys don't overlap
-abbrev pub Apart : List Row → List Row → Type 0
-Apart a b = AllBelow a b ⊎ AllBelow b a
+abbrev pub are_apart : List Row → List Row → Bool
+are_apart a b = all_below a b || all_below b a
 
 -- each page is one of rows, and no two ranges of keys overlap
 pub record KeepsRule (shape : RowShape) (pages : List (List ℕ)) : Type 0 where
   pub each : All (IsRowPage shape) pages
-  pub apart : (m n : ℕ) → m < n → n < length pages → Apart (page_rows (tables shape pages) m) (page_rows (tables shape pages) n)
+  pub apart : (m n : ℕ) → m < n → n < length pages → IsTrue (are_apart (page_rows (tables shape pages) m) (page_rows (tables shape pages) n))
 
 -- the first page that breaks the rule, by itself or with the pages before it, and the place in it
 pub record BreaksAt (shape : RowShape) (pages : List (List ℕ)) (page offset : ℕ) : Type 0 where

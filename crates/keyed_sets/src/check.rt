@@ -9,7 +9,7 @@ use crate::row::{end_of, length_of};
 use hal_base::BLOCK;
 
 /// How many rows have place in a page.
-pub fn capacity(shape: RowShape) -> u16
+pub(crate) fn capacity(shape: RowShape) -> u16
     requires { 0 < shape.key }
     ensures { result ≡ capacity shape }
 {
@@ -49,7 +49,7 @@ fn ends_with(shape: RowShape, page: &[u8; BLOCK], placed: u16) -> bool
 /// Where a page isn't a page of rows by itself: the first row that has place and isn't above the one before it,
 /// or 16 where there is no such row or the kind isn't 2.
 
-pub fn page_break(shape: RowShape, page: &[u8; BLOCK]) -> Option<u16>
+pub(crate) fn page_break(shape: RowShape, page: &[u8; BLOCK]) -> Option<u16>
     requires { 0 < shape.key }
     ensures sound { IfNone result (IsRowPage shape page.now) }
     ensures broken { IfSome result (λ offset. (IsRowPage shape page.now → ⊥) × (offset ≡ break_place shape page.now)) }

@@ -1,21 +1,38 @@
-// What a set keeps in memory of its pages.
-ghost use Rattle.std.specs.Prelude.{◌≡◌, ◌≤◌, ◌<◌, List, length, slice_get, true, false, Some};
+// What a set keeps in memory of its pages: the first key of each page that has rows, in the order of these keys, and the
+// numbers of the pages that have none, rising.
+ghost use Rattle.std.specs.Prelude.{◌≡◌, ◌≤◌, ◌<◌, List, length, slice_get, true, false, Some, []};
 ghost use Rattle.std.specs.List.{AllWithin};
 ghost use Rattle.keyed_sets.specs.declared.index.First.{First};
-ghost use Rattle.keyed_sets.specs.Goes.{GoesTo};
 ghost use Rattle.keyed_sets.specs.Layout.{Row, is_below};
 ghost use Rattle.keyed_sets.specs.Map.{KeysRise};
-ghost use Rattle.keyed_sets.specs.Opened.{IsIndex};
-ghost use Rattle.keyed_sets.specs.Opening.{AreApart};
+ghost use Rattle.keyed_sets.specs.Goes.{GoesTo};
+ghost use Rattle.keyed_sets.specs.Standing.{IsIndex};
+ghost use Rattle.keyed_sets.specs.Taken.{AreApart};
 
 use crate::page::is_below;
 use hal_base::Bytes;
 
 /// The first key of a page that has rows, and the page's number in its set.
 #[derive(Debug, Drop)]
-pub struct First {
-    pub key: Bytes,
-    pub page: u16,
+pub(crate) struct First {
+    pub(crate) key: Bytes,
+    pub(crate) page: u16,
+}
+
+#[derive(Debug, Drop)]
+pub(crate) struct Index {
+    pub(crate) firsts: Vec<First>,
+    pub(crate) empty: Vec<u16>,
+}
+
+impl Index {
+    /// A page has rows.
+    pub(crate) fn has_rows(&self) -> bool
+        ensures some { result ≡ true → 0 < length self.now.firsts.items }
+        ensures none { result ≡ false → self.now.firsts.items ≡ [] }
+    {
+        !self.firsts.is_empty()
+    }
 }
 
 /// How many of the pages that rise begin at this key or below it.

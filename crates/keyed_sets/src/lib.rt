@@ -11,27 +11,22 @@
 #![tactic(auto)]
 
 mod check;
-mod edit;
 mod fetch;
+mod get;
 mod index;
-mod insert;
-mod lookup;
 mod neighbours;
 mod open;
 mod opening;
 mod page;
+mod page_edits;
 mod put;
 mod remove;
 mod row;
 mod second;
+mod seek;
 mod set;
-mod split;
-mod stage;
+mod write;
 
-pub use check::{capacity, page_break};
-pub use edit::{insert_row, move_rows, remove_row};
-pub use index::First;
-pub use page::{body_at, count_in, has_place, has_room, key_at, place_in};
 pub use row::RowShape;
 pub use set::KeyedSet;
 

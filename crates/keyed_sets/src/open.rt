@@ -1,12 +1,12 @@
 // Opening a set: each page is read and taken in.
-ghost use Rattle.std.specs.Prelude.{◌≡◌, ◌+◌, ◌<◌, ◌≤◌, ℕ, length, take, IfOk, IfSome, OnOk, IsTrue, All};
-ghost use Rattle.hal_base.specs.Fault.{HasCauseFor};
-ghost use Rattle.keyed_sets.specs.Opened.{IsOpened};
-ghost use Rattle.keyed_sets.specs.Opening.{TakesIn};
+ghost use Rattle.std.specs.Prelude.{◌≡◌, ◌+◌, ◌<◌, ◌≤◌, ℕ, length, take, IfOk, IfSome, OnOk, IsErrOf, IsTrue, All};
+ghost use Rattle.hal_base.specs.ShelfCalls.{OnlyReads};
 ghost use Rattle.keyed_sets.specs.Rule.{BreaksAt};
-ghost use Rattle.keyed_sets.specs.Shelves.{OnlyRead};
+ghost use Rattle.keyed_sets.specs.Calls.{IsOpened};
+ghost use Rattle.keyed_sets.specs.Taken.{TakesIn};
 
 use crate::check::page_break;
+use crate::index::Index;
 use crate::opening::Opening;
 use crate::{KeyedSet, RowShape};
 use hal_base::{BLOCK, SetId, Shelf, StoreFault};
@@ -22,21 +22,17 @@ impl Opening {
         shape: RowShape,
         n: u16,
     ) -> Result<(), StoreFault>
-        requires live { IsTrue (H.live shelf.old) }
-        requires below { n < length (H.places shelf.old set) }
+        requires live { IsTrue (H.seen shelf.old).live }
+        requires below { n < length ((H.seen shelf.old).places set) }
         requires some { 0 < shape.key }
-        ensures taken { OnOk result (IfSome (H.pages_in shelf.old set) (λ pages. TakesIn shape (take n pages) self.old.firsts.items self.old.lasts.items self.old.empty.items → TakesIn shape (take (n + 1) pages) self.new.firsts.items self.new.lasts.items self.new.empty.items)) }
-        ensures broken { (page offset : ℕ) → result ≡ Err (StoreFault.BadTile page offset) → IfSome (H.pages_in shelf.old set) (λ pages. TakesIn shape (take n pages) self.old.firsts.items self.old.lasts.items self.old.empty.items → BreaksAt shape pages page offset) }
+        ensures taken { OnOk result (IfSome ((H.seen shelf.old).pages set) (λ pages. TakesIn shape (take n pages) self.old.firsts.items self.old.lasts.items self.old.empty.items → TakesIn shape (take (n + 1) pages) self.new.firsts.items self.new.lasts.items self.new.empty.items)) }
+        ensures broken { (page offset : ℕ) → result ≡ Err (StoreFault.BadTile page offset) → IfSome ((H.seen shelf.old).pages set) (λ pages. TakesIn shape (take n pages) self.old.firsts.items self.old.lasts.items self.old.empty.items → BreaksAt shape pages page offset) }
         ensures within { OnOk result ((count : ℕ) → n < count → All (λ first. first.page < count) self.old.firsts.items → All (λ first. first.page < count) self.new.firsts.items) }
         ensures empty_within { OnOk result ((count : ℕ) → n < count → All (λ k. k < count) self.old.empty.items → All (λ k. k < count) self.new.empty.items) }
-        ensures read { OnlyRead H.pages_in H.places H.free H.steady shelf.old shelf.new }
-        ensures cause { HasCauseFor (H.disk_faults shelf.old) (H.disk_faults shelf.new) result StoreFault.Failed }
-        ensures live { (result ≡ Err StoreFault.Failed → ⊥) → IsTrue (H.live shelf.new) }
+        ensures leaves { OnlyReads 1 (H.steady shelf.old shelf.new) (IsErrOf result StoreFault.Failed) (H.seen shelf.old) (H.seen shelf.new) }
     {
         let mut page = [0; BLOCK];
-        if shelf.fetch_page(set, n, &mut page).is_err() {
-            return Err(StoreFault::Failed);
-        }
+        shelf.fetch_page(set, n, &mut page)?;
         if let Some(offset) = page_break(shape, &page) {
             return Err(StoreFault::BadTile { page: n, offset });
         }
@@ -55,15 +51,13 @@ impl KeyedSet {
         key: u16,
         body: u16,
     ) -> Result<KeyedSet, StoreFault>
-        requires live { IsTrue (H.live shelf.old) }
+        requires live { IsTrue (H.seen shelf.old).live }
         requires some { 0 < key }
         requires short { key + body ≤ 2040 }
         ensures set { IfOk result (λ opened. (opened.set ≡ set) × (opened.shape ≡ record { key = key; body = body })) }
-        ensures opened { IfOk result (λ opened. IsOpened opened.shape opened.firsts.items opened.empty.items (length (H.places shelf.new opened.set)) (H.pages_in shelf.new opened.set)) }
-        ensures broken { (page offset : ℕ) → result ≡ Err (StoreFault.BadTile page offset) → IfSome (H.pages_in shelf.old set) (λ pages. BreaksAt (record { key = key; body = body }) pages page offset) }
-        ensures read { OnlyRead H.pages_in H.places H.free H.steady shelf.old shelf.new }
-        ensures cause { HasCauseFor (H.disk_faults shelf.old) (H.disk_faults shelf.new) result StoreFault.Failed }
-        ensures live { (result ≡ Err StoreFault.Failed → ⊥) → IsTrue (H.live shelf.new) }
+        ensures opened { IfOk result (λ opened. IsOpened opened (H.seen shelf.new)) }
+        ensures broken { (page offset : ℕ) → result ≡ Err (StoreFault.BadTile page offset) → IfSome ((H.seen shelf.old).pages set) (λ pages. BreaksAt (record { key = key; body = body }) pages page offset) }
+        ensures leaves { OnlyReads (length ((H.seen shelf.old).places set)) (H.steady shelf.old shelf.new) (IsErrOf result StoreFault.Failed) (H.seen shelf.old) (H.seen shelf.new) }
     {
         let shape = RowShape { key, body };
         let mut opening = Opening::new(alloc);
@@ -78,8 +72,7 @@ impl KeyedSet {
         Ok(KeyedSet {
             set,
             shape,
-            firsts,
-            empty,
+            index: Index { firsts, empty },
         })
     }
 }

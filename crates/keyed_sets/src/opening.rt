@@ -3,9 +3,9 @@
 ghost use Rattle.std.specs.Prelude.{◌≡◌, ◌+◌, ◌-◌, ◌<◌, ◌≤◌, ℕ, List, length, slice_get, ◌++◌, ◌∷◌, [], All, IfSome, IsSomeAnd, MatchResult, IfErr, OnOk, IsErrOf, IsTrue, true, false, Contains};
 ghost use Rattle.keyed_sets.specs.Layout.{Row, rows_in, is_below};
 ghost use Rattle.keyed_sets.specs.Map.{KeysRise};
-ghost use Rattle.keyed_sets.specs.Rule.{IsRowPage, Apart, page_rows};
-ghost use Rattle.keyed_sets.specs.Opened.{StartsWith};
-ghost use Rattle.keyed_sets.specs.Opening.{EndsWith, AreTaken};
+ghost use Rattle.keyed_sets.specs.Rule.{IsRowPage, page_rows};
+ghost use Rattle.keyed_sets.specs.Standing.{Apart, StartsWith};
+ghost use Rattle.keyed_sets.specs.Taken.{EndsWith, AreTaken};
 
 use crate::RowShape;
 use crate::index::{First, starts_upto};
@@ -81,8 +81,8 @@ impl Opening {
                 offset: 16,
             });
         }
-        let key = copied(alloc, first)?;
-        let end = copied(alloc, last)?;
+        let key = Bytes::from_slice(alloc, first)?;
+        let end = Bytes::from_slice(alloc, last)?;
         if self.firsts.insert(at, First { key, page: n }).is_err() {
             return Err(StoreFault::Memory);
         }
@@ -118,14 +118,5 @@ impl Opening {
         let first = key_at(shape, page, 0);
         let last = key_at(shape, page, count - 1);
         self.take_range(alloc, n, first, last)
-    }
-}
-
-fn copied(alloc: Global, content: &[u8]) -> Result<Bytes, StoreFault>
-    ensures { MatchResult result (λ bytes. bytes ≡ content.now) (λ fault. fault ≡ StoreFault.Memory) }
-{
-    match Bytes::from_slice(alloc, content) {
-        Ok(bytes) => Ok(bytes),
-        Err(_) => Err(StoreFault::Memory),
     }
 }

@@ -1,120 +1,132 @@
-// Putting a row.
-ghost use Rattle.std.specs.Prelude.{◌≡◌, ◌⊎◌, ◌↔◌, ◌+◌, ◌-◌, ◌/◌, ◌<◌, ◌≤◌, length, slice_get, IsTrue, Some, insert, [], OnOk, IfSome, IsErrOf};
-ghost use Rattle.std.specs.List.{remove};
-ghost use Rattle.std.specs.Option.{option_map};
-ghost use Rattle.hal_base.specs.Fault.{HasCauseFor};
-ghost use Rattle.hal_base.specs.Pages.{SameSets};
-ghost use Rattle.keyed_sets.specs.Changes.{MayGrow};
-ghost use Rattle.keyed_sets.specs.Layout.{HasShape, HasPlace, PutsRows, rows_in, count_of, end_of, place_of};
-ghost use Rattle.keyed_sets.specs.Map.{with_row};
-ghost use Rattle.keyed_sets.specs.Opened.{IsOpened};
-ghost use Rattle.keyed_sets.specs.Places.{lower_half, upper_half, IsBegun, Puts};
-ghost use Rattle.keyed_sets.specs.Rule.{Rise, capacity, tables};
+// Putting a row into a set.
+ghost use Rattle.std.specs.Prelude.{◌≡◌, ◌↔◌, ◌+◌, ◌<◌, ◌≤◌, false, OnOk, IfErr, IfSome, IsErrOf, IsTrue};
+ghost use Rattle.keyed_sets.specs.Calls.{IsOpened, PutsIn, PutFails, StaysOpen, Writes, Grows};
+ghost use Rattle.keyed_sets.specs.Layout.{HasShape, count_of, end_of};
+ghost use Rattle.keyed_sets.specs.Rule.{capacity, tables};
+ghost use Rattle.keyed_sets.specs.Goes.{IsBegun, IsFull};
+ghost use Rattle.keyed_sets.specs.Reading.{IsSought, home_page};
 
-use crate::edit::{insert_row, move_rows, remove_row};
-use crate::lookup::holds_key;
-use crate::page::{count_in, has_room, place_in};
-use crate::{KeyedSet, RowShape};
+use crate::KeyedSet;
+use crate::page::{count_in, has_room};
+use crate::page_edits::{insert_row, set_row, split_rows};
+use crate::seek::Spot;
 use hal_base::{BLOCK, PageFault, Shelf};
 
-/// A page takes a row at the place of its key without a second page: the row of the key is there, or it has room.
-pub(crate) fn takes_row(shape: RowShape, page: &[u8; BLOCK], at: u16, key: &[u8]) -> bool
-    requires { HasPlace shape page.now }
-    ensures { IsTrue result ↔ (((at < count_of page.now) × (option_map (λ row. row.0) (slice_get (rows_in shape page.now) at) ≡ Some key.now)) ⊎ (end_of shape (count_of page.now + 1) ≤ 4096)) }
+/// A place behind all rows of its page, where no page comes behind that.
+fn comes_last(home: usize, pages: usize, at: u16, count: u16) -> bool
+    requires { home < pages }
+    ensures { IsTrue result ↔ ((home + 1 ≡ pages) × (at ≡ count)) }
 {
-    holds_key(shape, page, at, key) || has_room(shape, page)
-}
-
-/// Puts another row in the place of one.
-fn replace_row(shape: RowShape, page: &mut [u8; BLOCK], at: u16, key: &[u8], body: &[u8])
-    requires some { 0 < shape.key }
-    requires place { HasPlace shape page.old }
-    requires within { at < count_of page.old }
-    requires shaped { HasShape shape (key.now, body.now) }
-    ensures { PutsRows shape page.old page.new (insert (remove (rows_in shape page.old) at) at (key.now, body.now)) }
-{
-    remove_row(shape, page, at);
-    insert_row(shape, page, at, key, body);
-}
-
-/// Puts a row at the place of its key, or over the row of its key.
-pub(crate) fn set_row(shape: RowShape, page: &mut [u8; BLOCK], at: u16, key: &[u8], body: &[u8])
-    requires some { 0 < shape.key }
-    requires place { HasPlace shape page.old }
-    requires within { at ≤ count_of page.old }
-    requires takes { ((at < count_of page.old) × (option_map (λ row. row.0) (slice_get (rows_in shape page.old) at) ≡ Some key.now)) ⊎ (end_of shape (count_of page.old + 1) ≤ 4096) }
-    requires shaped { HasShape shape (key.now, body.now) }
-    ensures puts { Rise (rows_in shape page.old) → at ≡ place_of key.now (rows_in shape page.old) → PutsRows shape page.old page.new (with_row (key.now, body.now) (rows_in shape page.old)) }
-    ensures place { HasPlace shape page.new }
-    ensures some { 0 < count_of page.new }
-{
-    if holds_key(shape, page, at, key) {
-        replace_row(shape, page, at, key, body);
-    } else {
-        insert_row(shape, page, at, key, body);
-    }
-}
-
-/// Splits a full page: the upper half of its rows moves to a page without rows, and the new row goes to the page where
-/// its key belongs then.
-pub(crate) fn split_rows(
-    shape: RowShape,
-    page: &mut [u8; BLOCK],
-    second: &mut [u8; BLOCK],
-    key: &[u8],
-    body: &[u8],
-)
-    requires some { 0 < shape.key }
-    requires place { HasPlace shape page.old }
-    requires many { 1 < count_of page.old }
-    requires empty { count_of second.old ≡ 0 }
-    requires shaped { HasShape shape (key.now, body.now) }
-    ensures up { length (rows_in shape page.old) - length (rows_in shape page.old) / 2 < place_of key.now (rows_in shape page.old) → PutsRows shape page.old page.new (lower_half (rows_in shape page.old)) × PutsRows shape second.old second.new (insert (upper_half (rows_in shape page.old)) (place_of key.now (rows_in shape page.old) - (length (rows_in shape page.old) - length (rows_in shape page.old) / 2)) (key.now, body.now)) }
-    ensures down { place_of key.now (rows_in shape page.old) ≤ length (rows_in shape page.old) - length (rows_in shape page.old) / 2 → PutsRows shape page.old page.new (insert (lower_half (rows_in shape page.old)) (place_of key.now (rows_in shape page.old)) (key.now, body.now)) × PutsRows shape second.old second.new (upper_half (rows_in shape page.old)) }
-    ensures kept { HasPlace shape page.new × (0 < count_of page.new) }
-    ensures moved { HasPlace shape second.new × (0 < count_of second.new) }
-{
-    let count = count_in(page);
-    let place = place_in(shape, page, key);
-    let from = count - count / 2;
-    move_rows(shape, page, from, second);
-    if place > from {
-        insert_row(shape, second, place - from, key, body);
-    } else {
-        insert_row(shape, page, place, key, body);
-    }
+    home + 1 == pages && at == count
 }
 
 impl KeyedSet {
+    /// Puts a row into the page where its key goes, which takes it.
+    fn fit_row<H: Shelf>(
+        &mut self,
+        shelf: &mut H,
+        spot: Spot,
+        page: &mut [u8; BLOCK],
+        key: &[u8],
+        body: &[u8],
+    ) -> Result<(), PageFault>
+        requires live { IsTrue (H.seen shelf.old).live }
+        requires opened { IsOpened self.old (H.seen shelf.old) }
+        requires shaped { HasShape self.old.shape (key.now, body.now) }
+        requires sought { IsSought self.old key.now spot page.old (H.seen shelf.old) }
+        requires takes { spot.found ≡ false → end_of self.old.shape (count_of page.old + 1) ≤ 4096 }
+        ensures puts { OnOk result (PutsIn self.old (key.now, body.now) (H.seen shelf.old) (H.seen shelf.new)) }
+        ensures opened { StaysOpen self.old self.new (H.seen shelf.new) }
+        ensures leaves { Writes self.old (H.steady shelf.old shelf.new) (IsErrOf result PageFault.Failed) (H.seen shelf.old) (H.seen shelf.new) }
+        ensures fails { IfErr result (PutFails self.old (key.now, body.now) (H.seen shelf.old) (H.seen shelf.new)) }
+    {
+        set_row(self.shape, page, spot.at, spot.found, key, body);
+        self.index
+            .put_page(shelf, self.set, self.shape, spot.home, page)
+    }
+
     /// Puts a row above all others, or the first of all, at the front of a page without rows.
-    pub(crate) fn begin_page<H: Shelf>(
+    fn begin_page<H: Shelf>(
         &mut self,
         shelf: &mut H,
         key: &[u8],
         body: &[u8],
     ) -> Result<(), PageFault>
-        requires live { IsTrue (H.live shelf.old) }
-        requires takes { IsTrue (H.takes shelf.old self.old.set 2) }
-        requires opened { IsOpened self.old.shape self.old.firsts.items self.old.empty.items (length (H.places shelf.old self.old.set)) (H.pages_in shelf.old self.old.set) }
+        requires live { IsTrue (H.seen shelf.old).live }
+        requires takes { IsTrue ((H.seen shelf.old).takes self.old.set 2) }
+        requires opened { IsOpened self.old (H.seen shelf.old) }
         requires shaped { HasShape self.old.shape (key.now, body.now) }
-        requires begins { IfSome (H.pages_in shelf.old self.old.set) (λ pages. IsBegun (capacity self.old.shape) key.now (tables self.old.shape pages)) }
-        ensures changes { OnOk result (Puts self.old.shape (key.now, body.now) (H.pages_in shelf.old self.old.set) (H.pages_in shelf.new self.old.set)) }
-        ensures opened { OnOk result (IsOpened self.new.shape self.new.firsts.items self.new.empty.items (length (H.places shelf.new self.new.set)) (H.pages_in shelf.new self.new.set)) }
-        ensures same { (self.new.set ≡ self.old.set) × (self.new.shape ≡ self.old.shape) }
-        ensures room { IsErrOf result PageFault.NoRoom → (H.free shelf.old ≡ []) × (self.old.empty.items ≡ []) }
-        ensures unchanged { IsErrOf result PageFault.NoRoom → SameSets (H.pages_in shelf.old) (H.pages_in shelf.new) }
-        ensures unmoved { IsErrOf result PageFault.NoRoom → SameSets (H.places shelf.old) (H.places shelf.new) }
-        ensures left { IsErrOf result PageFault.NoRoom → H.free shelf.new ≡ H.free shelf.old }
-        ensures still_open { IsErrOf result PageFault.NoRoom → IsOpened self.new.shape self.new.firsts.items self.new.empty.items (length (H.places shelf.new self.new.set)) (H.pages_in shelf.new self.new.set) }
-        ensures grows { MayGrow H.pages_in H.places H.free H.steady self.old.set shelf.old shelf.new }
-        ensures cause { HasCauseFor (H.disk_faults shelf.old) (H.disk_faults shelf.new) result PageFault.Failed }
-        ensures live { (result ≡ Err PageFault.Failed → ⊥) → IsTrue (H.live shelf.new) }
+        requires begins { IfSome ((H.seen shelf.old).pages self.old.set) (λ pages. IsBegun (capacity self.old.shape) key.now (tables self.old.shape pages)) }
+        ensures puts { OnOk result (PutsIn self.old (key.now, body.now) (H.seen shelf.old) (H.seen shelf.new)) }
+        ensures opened { StaysOpen self.old self.new (H.seen shelf.new) }
+        ensures leaves { Grows self.old (H.steady shelf.old shelf.new) (IsErrOf result PageFault.Failed) (H.seen shelf.old) (H.seen shelf.new) }
+        ensures fails { IfErr result (PutFails self.old (key.now, body.now) (H.seen shelf.old) (H.seen shelf.new)) }
     {
-        self.make_page(shelf)?;
+        self.index.make_page(shelf, self.set)?;
         let mut page = [0; BLOCK];
-        self.read_empty(shelf, &mut page)?;
+        self.index
+            .read_empty(shelf, self.set, self.shape, &mut page)?;
         insert_row(self.shape, &mut page, 0, key, body);
-        let at = self.firsts.len();
-        self.add_page(shelf, at, &page)
+        self.index.add_page(shelf, self.set, self.shape, &page)
+    }
+
+    /// Splits a full page into itself and an empty page of the set or a new one, with a row more.
+    fn split_page<H: Shelf>(
+        &mut self,
+        shelf: &mut H,
+        spot: Spot,
+        page: &mut [u8; BLOCK],
+        key: &[u8],
+        body: &[u8],
+    ) -> Result<(), PageFault>
+        requires live { IsTrue (H.seen shelf.old).live }
+        requires takes { IsTrue ((H.seen shelf.old).takes self.old.set 2) }
+        requires opened { IsOpened self.old (H.seen shelf.old) }
+        requires shaped { HasShape self.old.shape (key.now, body.now) }
+        requires sought { IsSought self.old key.now spot page.old (H.seen shelf.old) }
+        requires no_room { end_of self.old.shape (count_of page.old + 1) ≤ 4096 → ⊥ }
+        requires full { IfSome ((H.seen shelf.old).pages self.old.set) (λ pages. IsFull (capacity self.old.shape) key.now (tables self.old.shape pages) (home_page self.old spot)) }
+        ensures puts { OnOk result (PutsIn self.old (key.now, body.now) (H.seen shelf.old) (H.seen shelf.new)) }
+        ensures opened { StaysOpen self.old self.new (H.seen shelf.new) }
+        ensures leaves { Grows self.old (H.steady shelf.old shelf.new) (IsErrOf result PageFault.Failed) (H.seen shelf.old) (H.seen shelf.new) }
+        ensures fails { IfErr result (PutFails self.old (key.now, body.now) (H.seen shelf.old) (H.seen shelf.new)) }
+    {
+        self.index.make_page(shelf, self.set)?;
+        let mut second = [0; BLOCK];
+        self.index
+            .read_empty(shelf, self.set, self.shape, &mut second)?;
+        split_rows(self.shape, page, &mut second, spot.at, key, body);
+        self.index
+            .put_halves(shelf, self.set, self.shape, spot.home, page, &second)
+    }
+
+    /// Puts a row of the set's lengths into its place, over the body of the row of its key if there is one. A full page
+    /// splits in halves, unless the row comes behind all others: then it begins a page. An empty page of the set is taken
+    /// before the set gets a new one. `NoRoom` where it needs a new one and no block is free. After another fault the set
+    /// may have a page more, without rows, or of a page that was to be split only the lower half; the shelf is then to be
+    /// forgotten.
+    pub fn put<H: Shelf>(&mut self, shelf: &mut H, key: &[u8], body: &[u8]) -> Result<(), PageFault>
+        requires live { IsTrue (H.seen shelf.old).live }
+        requires takes { IsTrue ((H.seen shelf.old).takes self.old.set 2) }
+        requires opened { IsOpened self.old (H.seen shelf.old) }
+        requires shaped { HasShape self.old.shape (key.now, body.now) }
+        ensures puts { OnOk result (PutsIn self.old (key.now, body.now) (H.seen shelf.old) (H.seen shelf.new)) }
+        ensures opened { StaysOpen self.old self.new (H.seen shelf.new) }
+        ensures leaves { Grows self.old (H.steady shelf.old shelf.new) (IsErrOf result PageFault.Failed) (H.seen shelf.old) (H.seen shelf.new) }
+        ensures fails { IfErr result (PutFails self.old (key.now, body.now) (H.seen shelf.old) (H.seen shelf.new)) }
+    {
+        if !self.index.has_rows() {
+            return self.begin_page(shelf, key, body);
+        }
+        let mut page = [0; BLOCK];
+        let spot = self.seek(shelf, key, &mut page)?;
+        if spot.found || has_room(self.shape, &page) {
+            return self.fit_row(shelf, spot, &mut page, key, body);
+        }
+        let pages = self.index.firsts.len();
+        if comes_last(spot.home, pages, spot.at, count_in(&page)) {
+            return self.begin_page(shelf, key, body);
+        }
+        self.split_page(shelf, spot, &mut page, key, body)
     }
 }

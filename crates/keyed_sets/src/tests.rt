@@ -1,8 +1,8 @@
 //! Rows of one page.
-use crate::{
-    RowShape, body_at, capacity, count_in, has_place, has_room, insert_row, key_at, move_rows,
-    page_break, place_in, remove_row,
-};
+use crate::RowShape;
+use crate::check::{capacity, page_break};
+use crate::page::{body_at, count_in, has_place, has_room, key_at, place_in};
+use crate::page_edits::{insert_row, move_rows, remove_row};
 use hal_base::{BLOCK, SetId, empty_page};
 
 const SET: SetId = SetId {

@@ -1,7 +1,16 @@
-use Rattle.std.proofs.Common.{◌≡◌, ◌+◌, drop}
-use Rattle.keyed_sets.specs.Layout.{rows_in, place_of}
+use Rattle.std.proofs.Common.{◌≤◌, ◌-◌}
+use Rattle.keyed_sets.specs.Layout.{rows_in, count_of, place_of}
+use Rattle.keyed_sets.specs.Rule.{Rise}
 use Rattle.keyed_sets.proofs.page.place_in.Given as goal
 
--- the rows before this one are below the key
-abbrev pub invariant-loop-at : goal.invariant-loop-at
-invariant-loop-at l = place_of l.key (rows_in l.shape l.page) ≡ l.at + place_of l.key (drop l.at (rows_in l.shape l.page))
+-- the place isn't before `low`, nor behind `high`
+abbrev pub invariant-loop-low : goal.invariant-loop-low
+invariant-loop-low l = record {
+  order : l.low ≤ l.high;
+  within : l.high ≤ count_of l.page;
+  from : Rise (rows_in l.shape l.page) → l.low ≤ place_of l.key (rows_in l.shape l.page);
+  upto : Rise (rows_in l.shape l.page) → place_of l.key (rows_in l.shape l.page) ≤ l.high;
+}
+
+abbrev pub decreases-loop-low : goal.decreases-loop-low
+decreases-loop-low l = l.high - l.low

@@ -2,8 +2,9 @@ use Rattle.std.proofs.Common.{◌≡◌, ◌<◌, ◌-◌, ◌++◌, ◌∷◌, 
 use Rattle.std.specs.Prelude.{slice_get, IfSome, IsSomeAnd, insert}
 use Rattle.keyed_sets.specs.declared.index.First.{First}
 use Rattle.keyed_sets.specs.Layout.{Row, is_below}
-use Rattle.keyed_sets.specs.Rule.{page_rows, Apart}
-use Rattle.keyed_sets.specs.Opening.{AreTaken}
+use Rattle.keyed_sets.specs.Rule.{page_rows}
+use Rattle.keyed_sets.specs.Standing.{Apart}
+use Rattle.keyed_sets.specs.Taken.{AreTaken}
 use Rattle.keyed_sets.proofs.Edited.{done_of}
 use Rattle.keyed_sets.proofs.Openings.{IsSplit, IsRange, split_from, crosses_before, crosses_behind, taken_more}
 use Rattle.keyed_sets.proofs.opening.Opening.take_range.Goals as goal

@@ -1,8 +1,8 @@
 use Rattle.std.proofs.Common.{◌≡◌, ◌++◌, ◌∷◌, ◌+◌, ◌-◌, [], ℕ, List, length, drop, sym, ap, subst, ◌∙◌, arith}
 use Rattle.std.proofs.lemmas.Result.{on_ok_weaker}
 use Rattle.keyed_sets.specs.Layout.{Row, rows_in, rows_from}
-use Rattle.keyed_sets.specs.Opened.{StartsWith}
-use Rattle.keyed_sets.specs.Opening.{EndsWith, AreTaken}
+use Rattle.keyed_sets.specs.Standing.{StartsWith}
+use Rattle.keyed_sets.specs.Taken.{EndsWith, AreTaken}
 use Rattle.keyed_sets.proofs.Rows.{length-rows_in}
 use Rattle.keyed_sets.proofs.Members.{rise_all}
 use Rattle.keyed_sets.proofs.Tables.{starts_from, ends_from}
@@ -22,15 +22,15 @@ pub returns-clause-taken : goal.returns-clause-taken
 returns-clause-taken c =
     let rows : List Row = rows_in c.args.shape c.args.page.now in
     let long : (c.count_in-count.result - 1) + 1 ≡ length rows = omega (arith, length-rows_in c.args.shape c.args.page.now, c.count_in-count.ensures, c.if-count-eq0.false) in
-    let starts : StartsWith c.key_at-first.result.now rows = starts_from rows c.key_at-first.result.now c.key_at-first.ensures in
-    let ends : EndsWith c.key_at-last.result.now rows = ends_from rows (c.count_in-count.result - 1) c.key_at-last.result.now long c.key_at-last.ensures in
+    let starts : StartsWith c.key_at-first.result.now rows = starts_from rows c.key_at-first.result.now c.key_at-first.ensures.key in
+    let ends : EndsWith c.key_at-last.result.now rows = ends_from rows (c.count_in-count.result - 1) c.key_at-last.result.now long c.key_at-last.ensures.key in
     on_ok_weaker c.take_range.result (λ taken table so counted. taken table rows so counted (rise_all rows c.requires.rising) starts ends) c.take_range.ensures.taken
 
 pub returns-clause-overlap : goal.returns-clause-overlap
 returns-clause-overlap c = λ bad offset is.
     let rows : List Row = rows_in c.args.shape c.args.page.now in
     let long : (c.count_in-count.result - 1) + 1 ≡ length rows = omega (arith, length-rows_in c.args.shape c.args.page.now, c.count_in-count.ensures, c.if-count-eq0.false) in
-    let starts : StartsWith c.key_at-first.result.now rows = starts_from rows c.key_at-first.result.now c.key_at-first.ensures in
-    let ends : EndsWith c.key_at-last.result.now rows = ends_from rows (c.count_in-count.result - 1) c.key_at-last.result.now long c.key_at-last.ensures in
+    let starts : StartsWith c.key_at-first.result.now rows = starts_from rows c.key_at-first.result.now c.key_at-first.ensures.key in
+    let ends : EndsWith c.key_at-last.result.now rows = ends_from rows (c.count_in-count.result - 1) c.key_at-last.result.now long c.key_at-last.ensures.key in
     let found = c.take_range.ensures.overlap bad offset is in
     (found.0, found.1, λ table taken counted. found.2 table rows taken counted (rise_all rows c.requires.rising) starts ends)

@@ -1,113 +1,237 @@
-use Rattle.std.proofs.Common.{◌≡◌, ◌∙◌, ◌<◌, ℕ, List, Option, length, get_or, sym, ap, subst, Err}
-use Rattle.std.specs.Prelude.{IfSome, slice_get}
-use Rattle.std.proofs.lemmas.Option.{slice_get-get_or}
-use Rattle.std.proofs.lemmas.Result.{on_ok_weaker, err_from_is_err_and}
+use Rattle.std.proofs.Common.{◌≡◌, ◌∙◌, ◌+◌, ◌<◌, ℕ, List, length, inl, refl, sym, ap, Err}
+use Rattle.std.specs.Prelude.{IfSome}
+use Rattle.std.proofs.lemmas.Result.{on_ok_weaker, on_err_weaker, err_from_is_err_and}
 use Rattle.hal_base.specs.declared.outcome.PageFault.TheVariants.{NoRoom}
-use Rattle.keyed_sets.specs.declared.index.First.{First}
-use Rattle.keyed_sets.specs.declared.row.RowShape.{RowShape}
-use Rattle.keyed_sets.specs.Changes.{OnlyWritten}
-use Rattle.keyed_sets.specs.Goes.{IsSplitAt}
-use Rattle.keyed_sets.specs.Layout.{Row, HasShape}
-use Rattle.keyed_sets.specs.Opened.{Stands}
-use Rattle.keyed_sets.specs.Places.{IsFull}
+use Rattle.hal_base.proofs.ShelfLemmas.{keeps_as, same_changed, reads_as, reads_changes, changes_then, changes_grows}
+use Rattle.keyed_sets.specs.Layout.{Row, count_of}
+use Rattle.keyed_sets.specs.Places.{NeedsPage, NoneEmpty}
 use Rattle.keyed_sets.specs.Rule.{capacity, tables}
-use Rattle.keyed_sets.proofs.Openings.{no_first}
-use Rattle.keyed_sets.proofs.Spared.{full_told, split_puts}
-use Rattle.keyed_sets.proofs.Spares.{grow_read}
-use Rattle.keyed_sets.proofs.Told.{never_err}
+use Rattle.keyed_sets.specs.Goes.{IsFull}
+use Rattle.keyed_sets.specs.Reading.{home_page}
+use Rattle.keyed_sets.proofs.Heads.{heads_told, heads_unchanged}
+use Rattle.keyed_sets.proofs.SecondSet.{Splitting, many_rows, opened_spared, grows_by, left_spared, fails_spared, fails_made, can_halve, halves_put, halves_opened, halves_heads, left_opened, left_heads, left_puts}
+use Rattle.keyed_sets.proofs.Steps.{either, left_none, spared}
+use Rattle.keyed_sets.proofs.Told.{told_both, any_err}
 use Rattle.keyed_sets.proofs.set.KeyedSet.split_page.Goals as goal
 
-pub split_into-requires-clause-within : goal.split_into-requires-clause-within
-split_into-requires-clause-within g c =
-    subst (λ (l : List First). c.args.home < length l) (sym c.make_page.ensures.firsts) c.requires.within
+pub split_rows-requires-clause-many : goal.split_rows-requires-clause-many
+split_rows-requires-clause-many g c = many_rows c.args.self.now.shape (count_of c.args.page.now) c.args.self.now.short c.requires.no_room
 
-pub split_into-requires-clause-shaped : goal.split_into-requires-clause-shaped
-split_into-requires-clause-shaped g c =
-    subst (λ (s : RowShape). HasShape s (c.args.key.now, c.args.body.now)) (sym c.make_page.ensures.same.1) c.requires.shaped
-
-pub split_into-requires-clause-full : goal.split_into-requires-clause-full
-split_into-requires-clause-full g c =
+pub returns-in_err-make_page-clause-leaves : goal.returns-in_err-make_page-clause-leaves
+returns-in_err-make_page-clause-leaves g c =
     let self = c.args.self.now in
-    let one = c.make_page.new.self in
-    let told : Option (List (List ℕ)) = g.H.Shelf.pages_in c.args.shelf.now self.set in
-    let told1 : Option (List (List ℕ)) = g.H.Shelf.pages_in c.make_page.new.shelf self.set in
-    let sets : one.set ≡ self.set = c.make_page.ensures.same.0 in
-    let stands1 : IfSome told1 (Stands self.shape one.firsts.items one.empty.items) = subst (λ s. IfSome (g.H.Shelf.pages_in c.make_page.new.shelf s) (Stands self.shape one.firsts.items one.empty.items)) sets
-    (subst (λ (s : RowShape). IfSome (g.H.Shelf.pages_in c.make_page.new.shelf one.set) (Stands s one.firsts.items one.empty.items)) c.make_page.ensures.same.1 c.make_page.ensures.opened.stands) in
-    λ p there.
-    subst (λ s. IfSome (g.H.Shelf.pages_in c.make_page.new.shelf s) (λ pages. IsFull (capacity one.shape) c.args.key.now (tables one.shape pages) p.page)) (sym sets)
-    (subst (λ (s : RowShape). IfSome told1 (λ pages. IsFull (capacity s) c.args.key.now (tables s pages) p.page)) (sym c.make_page.ensures.same.1)
-    (full_told self.shape told told1 one.firsts.items one.empty.items c.args.key.now p.page (c.requires.full p (ap (λ (l : List First). slice_get l c.args.home) (sym c.make_page.ensures.firsts) ∙ there)) c.in_ok-make_page.ensures.pages c.in_ok-make_page.ensures.untold stands1 c.in_ok-make_page.ensures.some))
-
-pub returns-clause-changes : goal.returns-clause-changes
-returns-clause-changes g c =
-    let self = c.args.self.now in
-    let one = c.make_page.new.self in
-    let told : Option (List (List ℕ)) = g.H.Shelf.pages_in c.args.shelf.now self.set in
-    let told1 : Option (List (List ℕ)) = g.H.Shelf.pages_in c.make_page.new.shelf self.set in
-    let sets : one.set ≡ self.set = c.make_page.ensures.same.0 in
-    let stands1 : IfSome told1 (Stands self.shape one.firsts.items one.empty.items) = subst (λ s. IfSome (g.H.Shelf.pages_in c.make_page.new.shelf s) (Stands self.shape one.firsts.items one.empty.items)) sets
-    (subst (λ (s : RowShape). IfSome (g.H.Shelf.pages_in c.make_page.new.shelf one.set) (Stands s one.firsts.items one.empty.items)) c.make_page.ensures.same.1 c.make_page.ensures.opened.stands) in
-    let p : First = get_or self.firsts.items c.args.home no_first in
-    let there = slice_get-get_or self.firsts.items c.args.home no_first c.requires.within in
-    let row : Row = (c.args.key.now, c.args.body.now) in
-    on_ok_weaker c.split_into.result (λ split.
-    let at : IsSplitAt one.shape row p.page (g.H.Shelf.pages_in c.make_page.new.shelf one.set) (g.H.Shelf.pages_in c.split_into.new.shelf one.set) = split p (ap (λ (l : List First). slice_get l c.args.home) c.make_page.ensures.firsts ∙ there) in
-    let here : IsSplitAt self.shape row p.page told1 (g.H.Shelf.pages_in c.split_into.new.shelf self.set) =
-    subst (λ s. IsSplitAt self.shape row p.page (g.H.Shelf.pages_in c.make_page.new.shelf s) (g.H.Shelf.pages_in c.split_into.new.shelf s)) sets (subst (λ (s : RowShape). IsSplitAt s row p.page (g.H.Shelf.pages_in c.make_page.new.shelf one.set) (g.H.Shelf.pages_in c.split_into.new.shelf one.set)) c.make_page.ensures.same.1 at) in
-    split_puts self.shape row told told1 (g.H.Shelf.pages_in c.split_into.new.shelf self.set) self.firsts.items one.firsts.items self.empty.items one.empty.items p.page self.some self.short c.requires.opened.stands (c.requires.full p there) c.in_ok-make_page.ensures.pages stands1 c.in_ok-make_page.ensures.some here) c.split_into.ensures.changes
-
-pub returns-clause-same : goal.returns-clause-same
-returns-clause-same g c =
-    (c.split_into.ensures.same.0 ∙ c.make_page.ensures.same.0, c.split_into.ensures.same.1 ∙ c.make_page.ensures.same.1)
-
-pub returns-clause-room : goal.returns-clause-room
-returns-clause-room g c =
-    never_err c.split_into.result NoRoom c.split_into.ensures.room
-
-pub returns-clause-unchanged : goal.returns-clause-unchanged
-returns-clause-unchanged g c =
-    never_err c.split_into.result NoRoom c.split_into.ensures.room
-
-pub returns-clause-unmoved : goal.returns-clause-unmoved
-returns-clause-unmoved g c =
-    never_err c.split_into.result NoRoom c.split_into.ensures.room
-
-pub returns-clause-left : goal.returns-clause-left
-returns-clause-left g c =
-    never_err c.split_into.result NoRoom c.split_into.ensures.room
-
-pub returns-clause-still_open : goal.returns-clause-still_open
-returns-clause-still_open g c =
-    never_err c.split_into.result NoRoom c.split_into.ensures.room
-
-pub returns-clause-grows : goal.returns-clause-grows
-returns-clause-grows g c =
-    grow_read g.H.Shelf.pages_in g.H.Shelf.places g.H.Shelf.free g.H.Shelf.steady c.args.self.now.set c.args.shelf.now c.make_page.new.shelf c.split_into.new.shelf g.met.H.Shelf.steady_then c.make_page.ensures.grows (subst (λ s. OnlyWritten g.H.Shelf.pages_in g.H.Shelf.places g.H.Shelf.free g.H.Shelf.steady s c.make_page.new.shelf c.split_into.new.shelf) c.make_page.ensures.same.0 c.split_into.ensures.written)
-
-pub returns-in_err-make_page-clause-room : goal.returns-in_err-make_page-clause-room
-returns-in_err-make_page-clause-room g c =
-    λ is.
+    let before = g.H.Shelf.seen c.args.shelf.now in
+    let mid = g.H.Shelf.seen c.make_page.new.shelf in
+    let u = c.in_err-make_page.ensures.unchanged in
     let p = err_from_is_err_and c.from_residual.result c.from_residual.ensures.1 in
-    let failed : c.make_page.result ≡ Err NoRoom = cc in
-    c.make_page.ensures.room failed
+    record {
+      changes = inl (changes_grows (record { keeps = keeps_as c.make_page.ensures.keeps (λ is. cc) (λ is. cc); changed = same_changed self.set u.1 }));
+      heads = heads_unchanged self.set before mid (u.1.pages self.set);
+    }
 
-pub returns-in_err-make_page-clause-unchanged : goal.returns-in_err-make_page-clause-unchanged
-returns-in_err-make_page-clause-unchanged g c =
-    λ is. c.in_err-make_page.ensures.unchanged
+pub returns-in_err-make_page-clause-fails : goal.returns-in_err-make_page-clause-fails
+returns-in_err-make_page-clause-fails g c =
+    let self = c.args.self.now in
+    let before = g.H.Shelf.seen c.args.shelf.now in
+    let mid = g.H.Shelf.seen c.make_page.new.shelf in
+    let u = c.in_err-make_page.ensures.unchanged in
+    let row : Row = (c.args.key.now, c.args.body.now) in
+    let p = err_from_is_err_and c.from_residual.result c.from_residual.ensures.1 in
+    fails_made c.from_residual.result self row before mid u.1 (left_none self row before mid (u.1.pages self.set)) (λ is. let failed : c.make_page.result ≡ Err NoRoom = cc in c.make_page.ensures.room failed)
+    (λ none. told_both (before.pages self.set) (λ pages. IsFull (capacity self.shape) c.args.key.now (tables self.shape pages) (home_page self c.args.spot)) (λ pages. NeedsPage (capacity self.shape) c.args.key.now (tables self.shape pages)) c.requires.full
+    (λ pages is full. NoneEmpty (home_page self c.args.spot) full.home full.full (sym (c.requires.opened.empty pages is) ∙ none)))
 
-pub returns-in_err-make_page-clause-unmoved : goal.returns-in_err-make_page-clause-unmoved
-returns-in_err-make_page-clause-unmoved g c =
-    λ is. c.in_err-make_page.ensures.unmoved
+pub returns-in_err-read_empty-clause-opened : goal.returns-in_err-read_empty-clause-opened
+returns-in_err-read_empty-clause-opened g c =
+    let self = c.args.self.now in
+    let before = g.H.Shelf.seen c.args.shelf.now in
+    let mid = g.H.Shelf.seen c.make_page.new.shelf in
+    let one = c.make_page.new.self in
+    let made = spared self one before mid c.requires.opened (g.met.H.Shelf.pages_are c.args.shelf.now self.set) c.in_ok-make_page.ensures.made in
+    let sp = made.1 in
+    let read = g.H.Shelf.seen c.read_empty.new.shelf in
+    record { set = refl; shape = refl; opened = opened_spared self _ one.empty.items before mid read made.0 sp refl refl c.make_page.ensures.firsts refl c.read_empty.ensures.leaves.same }
 
-pub returns-in_err-make_page-clause-left : goal.returns-in_err-make_page-clause-left
-returns-in_err-make_page-clause-left g c =
-    λ is. c.in_err-make_page.ensures.left
+pub returns-in_err-read_empty-clause-leaves : goal.returns-in_err-read_empty-clause-leaves
+returns-in_err-read_empty-clause-leaves g c =
+    let self = c.args.self.now in
+    let before = g.H.Shelf.seen c.args.shelf.now in
+    let mid = g.H.Shelf.seen c.make_page.new.shelf in
+    let one = c.make_page.new.self in
+    let made = spared self one before mid c.requires.opened (g.met.H.Shelf.pages_are c.args.shelf.now self.set) c.in_ok-make_page.ensures.made in
+    let sp = made.1 in
+    let read = g.H.Shelf.seen c.read_empty.new.shelf in
+    let p = err_from_is_err_and c.from_residual-in_err-read_empty.result c.from_residual-in_err-read_empty.ensures.1 in
+    record {
+      changes = grows_by self one c.in_ok-make_page.ensures.made c.make_page.ensures.keeps (reads_changes self.set (reads_as c.read_empty.ensures.leaves (λ is. cc) (λ is. cc))) (g.met.H.Shelf.steady_then c.args.shelf.now c.make_page.new.shelf c.read_empty.new.shelf);
+      heads = heads_told self.set before read made.0 (c.read_empty.ensures.leaves.same.pages self.set ∙ sp.pages) sp.heads;
+    }
 
-pub returns-in_err-make_page-clause-still_open : goal.returns-in_err-make_page-clause-still_open
-returns-in_err-make_page-clause-still_open g c =
-    λ is. c.make_page.ensures.opened
+pub returns-in_err-read_empty-clause-fails : goal.returns-in_err-read_empty-clause-fails
+returns-in_err-read_empty-clause-fails g c =
+    let self = c.args.self.now in
+    let before = g.H.Shelf.seen c.args.shelf.now in
+    let mid = g.H.Shelf.seen c.make_page.new.shelf in
+    let one = c.make_page.new.self in
+    let made = spared self one before mid c.requires.opened (g.met.H.Shelf.pages_are c.args.shelf.now self.set) c.in_ok-make_page.ensures.made in
+    let sp = made.1 in
+    let read = g.H.Shelf.seen c.read_empty.new.shelf in
+    let row : Row = (c.args.key.now, c.args.body.now) in
+    let p = err_from_is_err_and c.from_residual-in_err-read_empty.result c.from_residual-in_err-read_empty.ensures.1 in
+    fails_spared c.from_residual-in_err-read_empty.result self row before read (any_err c.from_residual-in_err-read_empty.result (left_spared self row one.empty.items before mid read made.0 sp (c.read_empty.ensures.leaves.same.pages self.set)))
+    (λ is. let failed : c.read_empty.result ≡ Err NoRoom = cc in c.read_empty.ensures.room failed)
 
-pub returns-in_err-make_page-clause-grows : goal.returns-in_err-make_page-clause-grows
-returns-in_err-make_page-clause-grows g c =
-    c.make_page.ensures.grows
+pub put_halves-requires-clause-halves : goal.put_halves-requires-clause-halves
+put_halves-requires-clause-halves g c =
+    let self = c.args.self.now in
+    let before = g.H.Shelf.seen c.args.shelf.now in
+    let mid = g.H.Shelf.seen c.make_page.new.shelf in
+    let one = c.make_page.new.self in
+    let made = spared self one before mid c.requires.opened (g.met.H.Shelf.pages_are c.args.shelf.now self.set) c.in_ok-make_page.ensures.made in
+    let sp = made.1 in
+    let read = g.H.Shelf.seen c.read_empty.new.shelf in
+    let row : Row = (c.args.key.now, c.args.body.now) in
+    let page = c.args.page.now in
+    let page2 = c.split_rows.new.page in
+    let second = c.read_empty.new.page in
+    let second2 = c.split_rows.new.second in
+    let same = c.read_empty.ensures.leaves.same in
+    let s : Splitting self row c.args.spot one before mid made.0 page page2 second second2 = record {
+      opened = c.requires.opened;
+      some = self.some;
+      short = self.short;
+      sought = c.requires.sought;
+      full = c.requires.full;
+      spared = sp;
+      there = c.in_ok-read_empty.ensures.page;
+      split = c.split_rows.ensures.split;
+    } in
+    can_halve self row c.args.spot one before mid read made.0 page page2 second second2 s c.make_page.ensures.firsts same c.split_rows.ensures.kept c.split_rows.ensures.moved
+
+pub returns-clause-puts : goal.returns-clause-puts
+returns-clause-puts g c =
+    let self = c.args.self.now in
+    let before = g.H.Shelf.seen c.args.shelf.now in
+    let mid = g.H.Shelf.seen c.make_page.new.shelf in
+    let one = c.make_page.new.self in
+    let made = spared self one before mid c.requires.opened (g.met.H.Shelf.pages_are c.args.shelf.now self.set) c.in_ok-make_page.ensures.made in
+    let sp = made.1 in
+    let read = g.H.Shelf.seen c.read_empty.new.shelf in
+    let row : Row = (c.args.key.now, c.args.body.now) in
+    let page = c.args.page.now in
+    let page2 = c.split_rows.new.page in
+    let second = c.read_empty.new.page in
+    let second2 = c.split_rows.new.second in
+    let same = c.read_empty.ensures.leaves.same in
+    let s : Splitting self row c.args.spot one before mid made.0 page page2 second second2 = record {
+      opened = c.requires.opened;
+      some = self.some;
+      short = self.short;
+      sought = c.requires.sought;
+      full = c.requires.full;
+      spared = sp;
+      there = c.in_ok-read_empty.ensures.page;
+      split = c.split_rows.ensures.split;
+    } in
+    let after = g.H.Shelf.seen c.put_halves.new.shelf in
+    let two = c.put_halves.new.self in
+    on_ok_weaker c.put_halves.result (λ w. halves_put self row c.args.spot one two before mid read after made.0 page page2 second second2 s c.make_page.ensures.firsts (same.pages self.set) w) c.put_halves.ensures.written
+
+pub returns-clause-opened : goal.returns-clause-opened
+returns-clause-opened g c =
+    let self = c.args.self.now in
+    let before = g.H.Shelf.seen c.args.shelf.now in
+    let mid = g.H.Shelf.seen c.make_page.new.shelf in
+    let one = c.make_page.new.self in
+    let made = spared self one before mid c.requires.opened (g.met.H.Shelf.pages_are c.args.shelf.now self.set) c.in_ok-make_page.ensures.made in
+    let sp = made.1 in
+    let read = g.H.Shelf.seen c.read_empty.new.shelf in
+    let row : Row = (c.args.key.now, c.args.body.now) in
+    let page = c.args.page.now in
+    let page2 = c.split_rows.new.page in
+    let second = c.read_empty.new.page in
+    let second2 = c.split_rows.new.second in
+    let same = c.read_empty.ensures.leaves.same in
+    let s : Splitting self row c.args.spot one before mid made.0 page page2 second second2 = record {
+      opened = c.requires.opened;
+      some = self.some;
+      short = self.short;
+      sought = c.requires.sought;
+      full = c.requires.full;
+      spared = sp;
+      there = c.in_ok-read_empty.ensures.page;
+      split = c.split_rows.ensures.split;
+    } in
+    let after = g.H.Shelf.seen c.put_halves.new.shelf in
+    let two = c.put_halves.new.self in
+    let places = c.put_halves.ensures.leaves.changed.places self.set in
+    record {
+      set = refl;
+      shape = refl;
+      opened = either c.put_halves.result c.put_halves.ensures.written c.put_halves.ensures.left
+          (λ w. halves_opened self _ row c.args.spot one two before mid read after made.0 page page2 second second2 s c.make_page.ensures.firsts refl refl refl same places w)
+          (λ l. left_opened self _ row c.args.spot one two before mid read after made.0 page page2 second second2 s c.make_page.ensures.firsts refl refl refl same places l);
+    }
+
+pub returns-clause-leaves : goal.returns-clause-leaves
+returns-clause-leaves g c =
+    let self = c.args.self.now in
+    let before = g.H.Shelf.seen c.args.shelf.now in
+    let mid = g.H.Shelf.seen c.make_page.new.shelf in
+    let one = c.make_page.new.self in
+    let made = spared self one before mid c.requires.opened (g.met.H.Shelf.pages_are c.args.shelf.now self.set) c.in_ok-make_page.ensures.made in
+    let sp = made.1 in
+    let read = g.H.Shelf.seen c.read_empty.new.shelf in
+    let row : Row = (c.args.key.now, c.args.body.now) in
+    let page = c.args.page.now in
+    let page2 = c.split_rows.new.page in
+    let second = c.read_empty.new.page in
+    let second2 = c.split_rows.new.second in
+    let same = c.read_empty.ensures.leaves.same in
+    let s : Splitting self row c.args.spot one before mid made.0 page page2 second second2 = record {
+      opened = c.requires.opened;
+      some = self.some;
+      short = self.short;
+      sought = c.requires.sought;
+      full = c.requires.full;
+      spared = sp;
+      there = c.in_ok-read_empty.ensures.page;
+      split = c.split_rows.ensures.split;
+    } in
+    let after = g.H.Shelf.seen c.put_halves.new.shelf in
+    let two = c.put_halves.new.self in
+    record {
+      changes = grows_by self one c.in_ok-make_page.ensures.made c.make_page.ensures.keeps
+          (changes_then (reads_changes self.set c.read_empty.ensures.leaves) c.put_halves.ensures.leaves (g.met.H.Shelf.steady_then c.make_page.new.shelf c.read_empty.new.shelf c.put_halves.new.shelf))
+          (g.met.H.Shelf.steady_then c.args.shelf.now c.make_page.new.shelf c.put_halves.new.shelf);
+      heads = either c.put_halves.result c.put_halves.ensures.written c.put_halves.ensures.left (λ w. halves_heads self row c.args.spot one two before mid read after made.0 page page2 second second2 s c.make_page.ensures.firsts (same.pages self.set) w) (λ l. left_heads self row c.args.spot one two before mid read after made.0 page page2 second second2 s c.make_page.ensures.firsts (same.pages self.set) l);
+    }
+
+pub returns-clause-fails : goal.returns-clause-fails
+returns-clause-fails g c =
+    let self = c.args.self.now in
+    let before = g.H.Shelf.seen c.args.shelf.now in
+    let mid = g.H.Shelf.seen c.make_page.new.shelf in
+    let one = c.make_page.new.self in
+    let made = spared self one before mid c.requires.opened (g.met.H.Shelf.pages_are c.args.shelf.now self.set) c.in_ok-make_page.ensures.made in
+    let sp = made.1 in
+    let read = g.H.Shelf.seen c.read_empty.new.shelf in
+    let row : Row = (c.args.key.now, c.args.body.now) in
+    let page = c.args.page.now in
+    let page2 = c.split_rows.new.page in
+    let second = c.read_empty.new.page in
+    let second2 = c.split_rows.new.second in
+    let same = c.read_empty.ensures.leaves.same in
+    let s : Splitting self row c.args.spot one before mid made.0 page page2 second second2 = record {
+      opened = c.requires.opened;
+      some = self.some;
+      short = self.short;
+      sought = c.requires.sought;
+      full = c.requires.full;
+      spared = sp;
+      there = c.in_ok-read_empty.ensures.page;
+      split = c.split_rows.ensures.split;
+    } in
+    let after = g.H.Shelf.seen c.put_halves.new.shelf in
+    let two = c.put_halves.new.self in
+    fails_spared c.put_halves.result self row before after (on_err_weaker c.put_halves.result (λ l. left_puts self row c.args.spot one two before mid read after made.0 page page2 second second2 s c.make_page.ensures.firsts (same.pages self.set) l) c.put_halves.ensures.left) c.put_halves.ensures.room
