@@ -38,7 +38,7 @@ pub record NoCut (types : List SegType) (rows : List Row) (name : Ilk) : Type 0 
   pub without : without_span types rows name ≡ rows
   pub span : span_of types rows name ≡ []
 
-take_front : {X : Type 0} (xs ys : List X) → take (length xs) (xs ++ ys) ≡ xs
+pub take_front : {X : Type 0} (xs ys : List X) → take (length xs) (xs ++ ys) ≡ xs
 take_front [] ys = refl
 take_front (x ∷ xs) ys = ap (λ l. x ∷ l) (take_front xs ys)
 

@@ -185,7 +185,7 @@ no_child_before schema front behind above row parts h e = elim h [ inl among ↦
 abbrev pub MayPrecede : Schema → Row → Row → Type 0
 MayPrecede schema a b = (a.parent ≡ b.parent → a.code ≤ b.code) × (a.code ≡ b.code → a.parent ≡ b.parent → may_follow schema a b ≡ true)
 
-abbrev Stands : Schema → Row → Row → Type 0
+abbrev pub Stands : Schema → Row → Row → Type 0
 Stands schema new row = (is_parent row new ≡ true) ⊎ ((row.parent ≡ new.parent) × ((row.code < new.code) ⊎ (is_twin_before schema new row ≡ true)))
 
 pub record Around (schema : Schema) (rows : List Row) (new : Row) : Type 0 where

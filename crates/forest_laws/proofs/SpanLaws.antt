@@ -104,26 +104,25 @@ cuts_leave_anchors schema rows name forest c =
 
 -- ---- a span
 
-any_none : {X : Type 0} (p : X → Bool) (xs : List X) → list_all (λ x. not (p x)) xs ≡ true → list_any p xs ≡ false
+pub any_none : {X : Type 0} (p : X → Bool) (xs : List X) → list_all (λ x. not (p x)) xs ≡ true → list_any p xs ≡ false
 any_none p [] h = refl
 any_none p (x ∷ xs) h =
     let a = and_parts (not (p x)) (list_all (λ x. not (p x)) xs) h in
     ap (λ b. b || list_any p xs) (not-true (p x) a.0) ∙ any_none p xs a.1
 
-any_middle : {X : Type 0} (p : X → Bool) (xs ys : List X) (x : X) → p x ≡ true → list_any p (xs ++ x ∷ ys) ≡ true
+pub any_middle : {X : Type 0} (p : X → Bool) (xs ys : List X) (x : X) → p x ≡ true → list_any p (xs ++ x ∷ ys) ≡ true
 any_middle p [] ys x h = or_left (p x) (list_any p ys) h
 any_middle p (y ∷ xs) ys x h = or_right (p y) (list_any p (xs ++ x ∷ ys)) (any_middle p xs ys x h)
 
--- the paths of a list of which none has a row of the name, behind a path that has none
-paths_off : (level : Row → ℕ) (name : Ilk) (path rows : List Row) → list_all (λ r. not (same_name r.name name)) path ≡ true → list_all (λ r. not (same_name r.name name)) rows ≡ true → filter (λ p. is_on name p.0) (with_paths level path rows) ≡ []
-paths_off level name path [] h k = refl
-paths_off level name path (row ∷ rows) h k =
-    let test : Row → Bool = λ r. not (same_name r.name name) in
-    let a = and_parts (test row) (list_all test rows) k in
-    let grown : list_all test (path_with level path row) ≡ true = all_append test (above_in level path row) (row ∷ []) (all_in_filtered test (λ above. nat_lt (level above) (level row)) path h) (and_from (test row) true a.0 refl) in
-    let off : is_on name (path_with level path row) ≡ false = any_none (λ r. same_name r.name name) (path_with level path row) grown in
-    ap (λ b. cond b ((path_with level path row, row) ∷ filter (λ p. is_on name p.0) (with_paths level (path_with level path row) rows)) (filter (λ p. is_on name p.0) (with_paths level (path_with level path row) rows))) off
-    ∙ paths_off level name (path_with level path row) rows grown a.1
+-- the paths of a list of which no row passes, behind a path of which none does
+pub paths_off : (level : Row → ℕ) (test : Row → Bool) (path rows : List Row) → list_all (λ r. not (test r)) path ≡ true → list_all (λ r. not (test r)) rows ≡ true → filter (λ (p : List Row × Row). list_any test p.0) (with_paths level path rows) ≡ []
+paths_off level test path [] h k = refl
+paths_off level test path (row ∷ rows) h k =
+    let fails : Row → Bool = λ r. not (test r) in
+    let a = and_parts (fails row) (list_all fails rows) k in
+    let grown : list_all fails (path_with level path row) ≡ true = all_append fails (above_in level path row) (row ∷ []) (all_in_filtered fails (λ above. nat_lt (level above) (level row)) path h) (and_from (fails row) true a.0 refl) in
+    let rest = filter (λ (p : List Row × Row). list_any test p.0) (with_paths level (path_with level path row) rows) in
+    ap (λ b. cond b ((path_with level path row, row) ∷ rest) rest) (any_none test (path_with level path row) grown) ∙ paths_off level test (path_with level path row) rows grown a.1
 
 -- all that goes on with a path that has the name
 paths_on : (level : Row → ℕ) (name : Ilk) (front tail : List Row) (row : Row) (paths : List (List Row × Row)) → same_name row.name name ≡ true
@@ -135,7 +134,7 @@ paths_on level name front tail row (p ∷ paths) h =
     let rest = filter (λ (q : List Row × Row). is_on name q.0) (map (λ (p : List Row × Row). ((front ++ row ∷ tail) ++ p.0, p.1)) paths) in
     ap (λ b. map (λ (p : List Row × Row). p.1) (cond b (((front ++ row ∷ tail) ++ p.0, p.1) ∷ rest) rest)) on ∙ ap (λ (l : List Row). p.1 ∷ l) (paths_on level name front tail row paths h)
 
-paths_rows : (level : Row → ℕ) (path rows : List Row) → map (λ (p : List Row × Row). p.1) (with_paths level path rows) ≡ rows
+pub paths_rows : (level : Row → ℕ) (path rows : List Row) → map (λ (p : List Row × Row). p.1) (with_paths level path rows) ≡ rows
 paths_rows level path [] = refl
 paths_rows level path (row ∷ rows) = ap (λ (l : List Row). row ∷ l) (paths_rows level (path_with level path row) rows)
 
@@ -168,8 +167,8 @@ span_at schema rows name parts c =
     ∙ ap (λ (l : List (List Row × Row)). first ++ ((path, c.row) ∷ (mid ++ l))) (passed_over level above (c.row ∷ c.below) c.back c.next) in
     let behind = all_parts test c.below c.back (others_behind c.front (c.below ++ c.back) c.row name (subst (λ (l : List Row). all_pairs names_apart l ≡ true) c.split parts.named) c.named) in
     let off_above : list_all test above ≡ true = all_among test above (λ x a. among_passes test x c.front (path_within level x c.front a) c.others) in
-    let none_first : filter on first ≡ [] = paths_off level name [] c.front refl c.others in
-    let none_last : filter on last ≡ [] = paths_off level name above c.back off_above behind.1 in
+    let none_first : filter on first ≡ [] = paths_off level (λ r. same_name r.name name) [] c.front refl c.others in
+    let none_last : filter on last ≡ [] = paths_off level (λ r. same_name r.name name) above c.back off_above behind.1 in
     let here : on (path, c.row) ≡ true = any_middle (λ r. same_name r.name name) (above_in level above c.row) [] c.row c.named in
     let deep : list_all (λ x. list_all (λ a. nat_lt (level a) (level x)) path) c.below ≡ true =
     all_weaker (is_above level c.row) (λ x. list_all (λ a. nat_lt (level a) (level x)) path)
@@ -192,4 +191,4 @@ spans_are_below schema rows name forest = by (cut_of schema.types rows name)
   where
     by : CutAt schema.types rows name ⊎ NoCut schema.types rows name → span_of schema.types rows name ≡ map (λ (p : List Row × Row). p.1) (filter (λ (p : List Row × Row). is_on name p.0) (paths_of schema.types rows))
     by (inl c) = c.span ∙ span_at schema rows name (parts_of schema rows forest) c
-    by (inr c) = c.span ∙ sym (ap (map (λ (p : List Row × Row). p.1)) (paths_off (row_level schema.types) name [] rows refl c.none))
+    by (inr c) = c.span ∙ sym (ap (map (λ (p : List Row × Row). p.1)) (paths_off (row_level schema.types) (λ r. same_name r.name name) [] rows refl c.none))

@@ -102,7 +102,7 @@ example_rows =
 -- the rows as they came
 abbrev pub rows_as_they_came : List Row
 rows_as_they_came =
-    root_row 96 (codes "700bb") ∷ root_row 16 (codes "001aa") ∷ child_row 112 4 16 (codes "u") ∷ child_row 32 2 16 (codes "01xx") ∷ child_row 48 3 32 (codes "g1") ∷ child_row 64 3 32 (codes "g2") ∷ child_row 80 2 16 (codes "01yy") ∷ []
+    root_row 96 (codes "700bb") ∷ root_row 16 (codes "001aa") ∷ child_row 32 2 16 (codes "01xx") ∷ child_row 48 3 32 (codes "g1") ∷ child_row 112 4 16 (codes "u") ∷ child_row 64 3 32 (codes "g2") ∷ child_row 80 2 16 (codes "01yy") ∷ []
 
 -- each of the rows may be inserted behind those before it
 abbrev pub may_come : List Row → List Row → Bool

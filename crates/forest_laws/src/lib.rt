@@ -6,6 +6,7 @@ mod entries;
 mod examples;
 mod keeping;
 mod paths;
+mod places;
 mod spans;
 
 pub use entries::{entries_are_in_key_order, entries_are_of_sources};
@@ -15,4 +16,5 @@ pub use paths::{
     keys_are_long, paths_append, paths_are_ancestries, paths_are_by_parents, paths_begin_anew,
     paths_go_on,
 };
+pub use places::insertions_are_by_rule;
 pub use spans::{cuts_are_spans, cuts_leave_anchors, spans_are_below};
