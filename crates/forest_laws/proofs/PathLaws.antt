@@ -246,6 +246,7 @@ parents_at schema kept rows apart (suc most) path row le some h among = by (last
   where
     types : List SegType
     types = schema.types
+
     by : (path ≡ []) ⊎ ((ys : List Row) × (y : Row) × (path ≡ ys ++ y ∷ []))
         → ((q : Row) (p : List Row) → q.code ≤ most → 0 < q.code → is_path schema.types None (p ++ q ∷ []) ≡ true → ((x : Row) → Among x (p ++ q ∷ []) → Among x rows) → parents_within most rows q ≡ p ++ q ∷ [])
         → option_map_or (parents_within most rows) (option_and_then (row_named rows) row.parent) [] ++ row ∷ [] ≡ path ++ row ∷ []

@@ -147,14 +147,17 @@ lower_of schema rows new row a b none among e = by (stands_as schema new b.last 
   where
     all : rows ≡ b.head ++ b.last ∷ (b.tail ++ a.place.back)
     all = a.place.split ∙ ap (λ (l : List Row). l ++ a.place.back) b.split ∙ append_assoc b.head (b.last ∷ b.tail) a.place.back
+
     parts : Parts schema (b.head ++ b.last ∷ (b.tail ++ a.place.back))
     parts = subst (Parts schema) all a.parts
+
     deep : Among row b.tail → row.code < new.code
     deep h =
         let here = subst (λ (l : List Row). Among row l) (sym a.place.split) (among_left row a.place.front a.place.back among) in
         let l = ltb-true (row_level schema.types new) (row_level schema.types row) (among_passes (is_above (row_level schema.types) new) row b.tail h b.deeper) in
         let same = beside_level schema rows new row a.kept a.parts a.under here e in
         absurd (omega (arith, l, same))
+
     by : Stands schema new b.last → Among row b.head ⊎ Among row (b.last ∷ b.tail) → row.code < new.code
     by s (inr (inr h)) = deep h
     by (inl parent) (inl h) = absurd (no_child_before schema b.head (b.tail ++ a.place.back) b.last row parts (inl h) (e ∙ parent_is b.last new parent))
@@ -190,6 +193,7 @@ by_twin schema rows new a before last e = by a.place.last
   where
     test : Row → Bool
     test = is_twin_before schema new
+
     at : (b : Behind schema new a.place.front) → (t : Bool) → is_twin_before schema new b.last ≡ t → IsBehind (span_of schema.types rows last.name) rows new (inserted schema rows new)
     at b true twin =
         let whole = sym (twins_to_last schema rows new a b ∙ ap (λ t. filter (is_twin_before schema new) b.head ++ cond t (b.last ∷ []) []) twin) ∙ e in
@@ -202,6 +206,7 @@ by_twin schema rows new a before last e = by a.place.last
         let lower = lower_of schema rows new last a b none front t.1 in
         let same = t.0 in
         absurd (omega (arith, lower, same))
+
     by : Behind schema new a.place.front ⊎ (list_all (is_above (row_level schema.types) new) a.place.front ≡ true) → IsBehind (span_of schema.types rows last.name) rows new (inserted schema rows new)
     by (inl b) = at b (is_twin_before schema new b.last) refl
     by (inr deeper) =
@@ -345,17 +350,20 @@ between_is schema rows new a none u =
         place (inl a) = inl a
         place (inr (inl e)) = inr (sym e)
         place (inr (inr n)) = absurd n
+
         by : (b : Bool) → is_lower_sibling new r ≡ b → not b ≡ true
         by true e =
             let same = parents_are r.parent new.parent (and_parts (same_parent r.parent new.parent) (nat_lt r.code new.code) e).0 in
             absurd (no_child_before schema head behind p r parts (place h) (same ∙ parent))
         by false e = refl
+
     low_starts : (level : Row → ℕ) (new : Row) (between back : List Row) → list_all (not_above level new) between ≡ true → starts_above level (new ∷ []) back ≡ true → starts_above level between back ≡ true
     low_starts level new between [] low next = refl
     low_starts level new between (y ∷ back) low next =
         let far = ltb-false (level new) (level y) (not-true (nat_lt (level new) (level y)) (and_parts (not_above level y new) true next).0) in
         all_weaker (not_above level new) (not_above level y)
         (λ r h. let l = ltb-false (level r) (level new) (not-true (nat_lt (level r) (level new)) h) in not_from_false (nat_lt (level r) (level y)) (le-ltb (level r) (level y) (omega (arith, l, far)))) between low
+
     deeper_than : (level : Row → ℕ) (path between : List Row) (p new : Row) (head : List Row) → level new ≡ level p + 1 → list_all (not_above level new) between ≡ true → list_all (λ x. list_all (λ z. nat_lt (level z) (level x)) (path_with level head p)) between ≡ true
     deeper_than level path between p new head deep low =
         all_weaker (not_above level new) (λ x. list_all (λ z. nat_lt (level z) (level x)) (path_with level head p))
@@ -373,10 +381,13 @@ by_parent schema rows new above a none e = by a.under
   where
     f : Found (λ row. is_parent row new) rows above
     f = found (λ row. is_parent row new) rows above e
+
     parent : new.parent ≡ Some above.name
     parent = parent_is above new f.passes
+
     here : Among above rows
     here = subst (λ (l : List Row). Among above l) (sym f.split) (among_middle above f.front f.behind)
+
     at : (u : UnderAt schema a.place.front new) → IsBehind (above ∷ lower_spans schema.types rows new) rows new (inserted schema rows new)
     at u =
         let back = a.place.back in
@@ -390,6 +401,7 @@ by_parent schema rows new above a none e = by a.under
           whole = whole ∙ ap (λ (l : List Row). u.head ++ (l ++ back)) part;
           placed = a.place.placed ∙ ap (λ (l : List Row). l ++ new ∷ back) u.split ∙ append_assoc u.head (u.above ∷ u.between) (new ∷ back) ∙ ap (λ (l : List Row). u.head ++ (l ++ new ∷ back)) part;
         }
+
     by : NewUnder schema.types rows new → IsBehind (above ∷ lower_spans schema.types rows new) rows new (inserted schema rows new)
     by (inl root) = absurd (some_none above.name (sym parent ∙ root.1))
     by (inr p) = at (under_at schema rows new p.0 a.kept a.parts a.place p.1 p.2)
@@ -422,10 +434,12 @@ by_front schema rows new a none parent = at a.under
         known =
             let here = subst (λ (l : List Row). Among b.last l) (sym (a.place.split ∙ ap (λ (l : List Row). l ++ a.place.back) b.split)) (among_left b.last (b.head ++ b.last ∷ b.tail) a.place.back (among_middle b.last b.head b.tail)) in
             row_known schema.types b.last (among_passes (has_length schema.types) b.last rows here a.parts.long)
+
         by : Stands schema new b.last → ⊥
         by (inl p) = some_none b.last.name (sym (parent_is b.last new p) ∙ parent)
         by (inr (sibling, inl lower)) = let one = root.0 in let k = known in absurd (omega (arith, one, lower, k))
         by (inr (sibling, inr twin)) = both_ways (is_twin_before schema new b.last) (no_twin_last schema rows new a b none) twin
+
     at : NewUnder schema.types rows new → inserted schema rows new ≡ new ∷ rows
     at (inl root) =
         let empty : a.place.front ≡ [] = root_front schema rows new a root a.place.front refl (deeper root a.place.last) in

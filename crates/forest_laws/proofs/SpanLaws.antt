@@ -16,7 +16,7 @@ use Rattle.hal_schema.specs.Span.{span_of, without_span}
 use Rattle.hal_schema.specs.Forest.{all_pairs, names_apart}
 use Rattle.forest_laws.specs.Spans.{is_on, SpansAreBelow, IsCut, CutsAreSpans, those_in, LeavesAnchors, CutsLeaveAnchors}
 use Rattle.forest_laws.proofs.Lists.{Among, among_passes, among_append, among_left, among_right, among_middle, among_split, all_among, all_append, all_parts, all_weaker, filter_all, filter_none, all_in_filtered, all_filtered, find_at, pairs_at, PairsParts, pairs_parts}
-use Rattle.forest_laws.proofs.Names.{name_is, name_from, apart_names}
+use Rattle.forest_laws.proofs.Names.{name_is, name_from, apart_names, others_behind}
 use Rattle.forest_laws.proofs.Carried.{is_above, above_in, with_append, passed_over}
 use Rattle.forest_laws.proofs.Parents.{Parts, parts_of}
 use Rattle.forest_laws.proofs.CutKeeps.{CutAt, NoCut, cut_of}
@@ -73,8 +73,10 @@ apart_parts front middle back h x y a b e = by (among_append y front back b)
   where
     p : PairsParts names_apart front (middle ++ back)
     p = pairs_parts names_apart front (middle ++ back) h
+
     q : PairsParts names_apart middle back
     q = pairs_parts names_apart middle back p.back
+
     by : Among y front ⊎ Among y back → ⊥
     by (inl f) = apart_names y x (among_passes (names_apart y) x (middle ++ back) (among_left x middle back a) (among_passes (λ z. list_all (names_apart z) (middle ++ back)) y front f p.across)) e
     by (inr g) = apart_names x y (among_passes (names_apart x) y back g (among_passes (λ z. list_all (names_apart z) back) x middle a q.across)) (sym e)
@@ -87,7 +89,7 @@ cuts_leave_anchors schema rows name forest c =
     let apart = subst (λ (l : List Row). all_pairs names_apart l ≡ true) c.whole parts.named in
     let stays : (part : List Row) → ((x : Row) → Among x part → Among x (c.front ++ c.back)) → those_in left part ≡ part = λ part h. kept_rows left part (λ x a. subst (λ (l : List Row). Among x l) (sym c.cut) (h x a)) in
     let goes : (part : List Row) → ((x : Row) → Among x part → Among x span) → those_in left part ≡ [] = λ part h.
-        left_out left part (λ x y a b e. apart_parts c.front span c.back apart x y (h x a) (subst (λ (l : List Row). Among y l) c.cut b) e) in
+    left_out left part (λ x y a b e. apart_parts c.front span c.back apart x y (h x a) (subst (λ (l : List Row). Among y l) c.cut b) e) in
     let test : Row → Bool = λ row. not (is_new_name left row.name) in
     let whole_front : those_in left c.front ≡ c.front = stays c.front (λ x a. among_left x c.front c.back a) in
     record {
@@ -137,18 +139,6 @@ paths_on level name front tail row (p ∷ paths) h =
 pub paths_rows : (level : Row → ℕ) (path rows : List Row) → map (λ (p : List Row × Row). p.1) (with_paths level path rows) ≡ rows
 paths_rows level path [] = refl
 paths_rows level path (row ∷ rows) = ap (λ (l : List Row). row ∷ l) (paths_rows level (path_with level path row) rows)
-
--- rows behind the named one have other names
-others_behind : (front back : List Row) (row : Row) (name : Ilk) → all_pairs names_apart (front ++ row ∷ back) ≡ true → same_name row.name name ≡ true → list_all (λ r. not (same_name r.name name)) back ≡ true
-others_behind front back row name apart named =
-    all_weaker (names_apart row) (λ r. not (same_name r.name name)) (λ r h. other r h) back (pairs_at names_apart front back row apart).behind
-  where
-    other : (r : Row) → names_apart row r ≡ true → not (same_name r.name name) ≡ true
-    other r h = by (same_name r.name name) refl
-      where
-        by : (b : Bool) → same_name r.name name ≡ b → not b ≡ true
-        by true f = absurd (apart_names row r h (name_is row.name name named ∙ sym (name_is r.name name f)))
-        by false f = refl
 
 span_at : (schema : Schema) (rows : List Row) (name : Ilk) → Parts schema rows → (c : CutAt schema.types rows name) → c.row ∷ c.below ≡ map (λ (p : List Row × Row). p.1) (filter (λ (p : List Row × Row). is_on name p.0) (paths_of schema.types rows))
 span_at schema rows name parts c =
