@@ -38,7 +38,7 @@ pub record NoCut (types : List SegType) (rows : List Row) (name : Ilk) : Type 0 
   pub without : without_span types rows name ≡ rows
   pub span : span_of types rows name ≡ []
 
-take_front : {X : Type 0} (xs ys : List X) → take (length xs) (xs ++ ys) ≡ xs
+pub take_front : {X : Type 0} (xs ys : List X) → take (length xs) (xs ++ ys) ≡ xs
 take_front [] ys = refl
 take_front (x ∷ xs) ys = ap (λ l. x ∷ l) (take_front xs ys)
 
@@ -59,9 +59,9 @@ cut_here types row rows name named =
       back = f.rest;
       split = ap (λ (l : List Row). row ∷ l) f.split;
       without = ap (λ b. cond b (drop (prefix_len (is_deeper types row) rows) rows) (row ∷ without_span types rows name)) named
-      ∙ ap (λ n. drop n rows) f.long ∙ ap (drop (length f.passing)) f.split ∙ drop_front f.passing f.rest;
+          ∙ ap (λ n. drop n rows) f.long ∙ ap (drop (length f.passing)) f.split ∙ drop_front f.passing f.rest;
       span = ap (λ b. cond b (row ∷ take (prefix_len (is_deeper types row) rows) rows) (span_of types rows name)) named
-      ∙ ap (λ (l : List Row). row ∷ l) (ap (λ n. take n rows) f.long ∙ ap (take (length f.passing)) f.split ∙ take_front f.passing f.rest);
+          ∙ ap (λ (l : List Row). row ∷ l) (ap (λ n. take n rows) f.long ∙ ap (take (length f.passing)) f.split ∙ take_front f.passing f.rest);
       named = named;
       others = refl;
       deeper = f.pass;
@@ -119,7 +119,7 @@ paths_cut types rows name c =
       cut = cut;
       last = last;
       before = ap (paths_of types) c.split ∙ with_append level [] c.front ((c.row ∷ c.below) ++ c.back)
-      ∙ ap (λ (l : List (List Row × Row)). first ++ l) (with_append level above (c.row ∷ c.below) c.back ∙ ap (λ (l : List (List Row × Row)). cut ++ l) (passed_over level above (c.row ∷ c.below) c.back c.next));
+          ∙ ap (λ (l : List (List Row × Row)). first ++ l) (with_append level above (c.row ∷ c.below) c.back ∙ ap (λ (l : List (List Row × Row)). cut ++ l) (passed_over level above (c.row ∷ c.below) c.back c.next));
       after = with_append level [] c.front c.back;
     }
 

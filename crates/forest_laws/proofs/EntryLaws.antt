@@ -174,8 +174,10 @@ sources schema index t keeps (p ∷ paths) whole = by (p.1.code == index.source)
   where
     types : List SegType
     types = schema.types
+
     later : List (List Row × Row)
     later = filter (λ (p : List Row × Row). p.1.code == index.source) paths
+
     by : (b : Bool) → (p.1.code == index.source) ≡ b → AllZip (IsEntryOf schema.types index) (filter (λ (p : List Row × Row). p.1.code == index.source) paths) (entries_by_row schema.types index paths)
         → AllZip (IsEntryOf schema.types index) (cond b (p ∷ filter (λ (p : List Row × Row). p.1.code == index.source) paths) (filter (λ (p : List Row × Row). p.1.code == index.source) paths))
         (filter_map (entry_at schema.types index) (cond b (p ∷ filter (λ (p : List Row × Row). p.1.code == index.source) paths) (filter (λ (p : List Row × Row). p.1.code == index.source) paths)))

@@ -62,8 +62,8 @@ paths_with schema rows new place path =
       back = back;
       before = ap (paths_of schema.types) place.split ∙ with_append level [] place.front place.back;
       after = with_append level [] place.front (new ∷ place.back)
-      ∙ ap (λ (l : List (List Row × Row)). front ++ (path_with level above new, new) ∷ l) (passed_over level above (new ∷ []) place.back place.next)
-      ∙ ap (λ (l : List Row). front ++ (l, new) ∷ back) path.is;
+          ∙ ap (λ (l : List (List Row × Row)). front ++ (path_with level above new, new) ∷ l) (passed_over level above (new ∷ []) place.back place.next)
+          ∙ ap (λ (l : List Row). front ++ (l, new) ∷ back) path.is;
     }
 
 -- an entry that enters freely
@@ -72,7 +72,7 @@ free_entry : (types : List SegType) (rows : List Row) (new : Row) (index : Index
 free_entry types rows new index entry source key h =
     let own = own_key types index (new_path types rows new) new.content in
     elim (or_cases (not (new.code == index.source)) (not (is_taken own (entries_of types index rows))) h) [
-      inl other ↦ absurd (both_ways (new.code == index.source) (not-true (new.code == index.source) other) source)
+      | inl other ↦ absurd (both_ways (new.code == index.source) (not-true (new.code == index.source) other) source)
       | inr free ↦ subst (λ (k : List ℕ). list_all (λ (e : Entry). not (bytes_eq k e.key)) (entries_by_row types index (paths_of types rows)) ≡ true) (sym key) (untaken own (entries_by_row types index (paths_of types rows)) free)
     ]
 
@@ -81,12 +81,16 @@ index_with types old rows new index p differ free = by (adds types index (new_pa
   where
     raw : entries_by_row types index (paths_of types old) ≡ entries_by_row types index p.front ++ entries_by_row types index p.back
     raw = ap (entries_by_row types index) p.before ∙ entries_append types index p.front p.back
+
     were : all_pairs keys_apart (entries_by_row types index p.front ++ entries_by_row types index p.back) ≡ true
     were = sym (ap (all_pairs keys_apart) raw) ∙ sym (pairs_in_order (entries_by_row types index (paths_of types old))) ∙ differ
+
     are : entries_by_row types index (paths_of types rows) ≡ entries_by_row types index p.front ++ entries_by_row types index ((new_path types old new, new) ∷ p.back)
     are = ap (entries_by_row types index) p.after ∙ entries_append types index p.front ((new_path types old new, new) ∷ p.back)
+
     goal : all_pairs keys_apart (entries_by_row types index p.front ++ entries_by_row types index ((new_path types old new, new) ∷ p.back)) ≡ true → entries_differ types rows index ≡ true
     goal h = pairs_in_order (entries_by_row types index (paths_of types rows)) ∙ ap (all_pairs keys_apart) are ∙ h
+
     by : Adds types index (new_path types old new, new) → entries_differ types rows index ≡ true
     by (Nothing e) = goal (ap (λ (l : List Entry). all_pairs keys_apart (entries_by_row types index p.front ++ l)) (e p.back) ∙ were)
     by (One entry source is e) =
@@ -112,13 +116,13 @@ insertion_kept kept roots schema rows new forest may =
     (forest_from schema (place.front ++ new ∷ place.back)
     (record {
       named = pairs_with names_apart place.front place.back new (subst (λ (l : List Row). all_pairs names_apart l ≡ true) place.split parts.named) apart.0
-      (all_weaker (λ r. names_apart r new) (names_apart new) (λ r h. apart_back r new h) place.back apart.1);
+          (all_weaker (λ r. names_apart r new) (names_apart new) (λ r h. apart_back r new h) place.back apart.1);
       long = all_with (has_length types) place.front place.back new (subst (λ (l : List Row). list_all (has_length types) l ≡ true) place.split parts.long) is.long;
       placed = ap (list_all (λ (p : List Row × Row). is_path types None p.0)) paths.after
-      ∙ all_with (λ (p : List Row × Row). is_path types None p.0) paths.front paths.back (new_path types rows new, new) (sym (ap (list_all (λ (p : List Row × Row). is_path types None p.0)) paths.before) ∙ parts.placed) path.path;
+          ∙ all_with (λ (p : List Row × Row). is_path types None p.0) paths.front paths.back (new_path types rows new, new) (sym (ap (list_all (λ (p : List Row × Row). is_path types None p.0)) paths.before) ∙ parts.placed) path.path;
       types = types_with schema rows new around;
       twins = twins_with schema rows new around;
       selected = all_with (is_selected schema) place.front place.back new (subst (λ (l : List Row). list_all (is_selected schema) l ≡ true) place.split parts.selected) is.selected;
       indexed = all_both (entries_differ types rows) (enters_freely types rows new) (entries_differ types (place.front ++ new ∷ place.back))
-      (λ index d f. index_with types rows (place.front ++ new ∷ place.back) new index paths d f) schema.indexes parts.indexed is.indexes;
+          (λ index d f. index_with types rows (place.front ++ new ∷ place.back) new index paths d f) schema.indexes parts.indexed is.indexes;
     }))

@@ -14,3 +14,4 @@ pub mod PathLaws
 pub mod SpanLaws
 pub mod EntryLaws
 pub mod ExampleLaws
+pub mod RuleLaws

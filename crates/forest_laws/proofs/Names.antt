@@ -10,7 +10,7 @@ use Rattle.hal_schema.specs.declared.schema.SegType.{SegType}
 use Rattle.hal_schema.specs.SegType.{parent_code, is_parent_code}
 use Rattle.hal_schema.specs.Row.{same_name, same_parent, is_parent, are_twins}
 use Rattle.hal_schema.specs.Forest.{all_pairs, names_apart, is_child_of}
-use Rattle.forest_laws.proofs.Lists.{Among, among_passes, pairs_at, all_middle}
+use Rattle.forest_laws.proofs.Lists.{Among, among_passes, pairs_at, all_middle, all_weaker}
 
 ilk_is : (a b : Ilk) → a.addr ≡ b.addr → a.part ≡ b.part → a.number ≡ b.number → a ≡ b
 ilk_is a b e f g = λ i. record { addr = e i; part = f i; number = g i }
@@ -89,3 +89,15 @@ one_of_name (row ∷ rows) a b h (inl p) (inr y) e =
 one_of_name (row ∷ rows) a b h (inr x) (inl q) e =
     absurd (apart_names row a (among_passes (names_apart row) a rows x (and_parts (list_all (names_apart row) rows) (all_pairs names_apart rows) h).0) (ap (λ (r : Row). r.name) q ∙ sym e))
 one_of_name (row ∷ rows) a b h (inr x) (inr y) e = one_of_name rows a b (and_parts (list_all (names_apart row) rows) (all_pairs names_apart rows) h).1 x y e
+
+-- rows behind the named one have other names
+pub others_behind : (front back : List Row) (row : Row) (name : Ilk) → all_pairs names_apart (front ++ row ∷ back) ≡ true → same_name row.name name ≡ true → list_all (λ r. not (same_name r.name name)) back ≡ true
+others_behind front back row name apart named =
+    all_weaker (names_apart row) (λ r. not (same_name r.name name)) (λ r h. other r h) back (pairs_at names_apart front back row apart).behind
+  where
+    other : (r : Row) → names_apart row r ≡ true → not (same_name r.name name) ≡ true
+    other r h = by (same_name r.name name) refl
+      where
+        by : (b : Bool) → same_name r.name name ≡ b → not b ≡ true
+        by true f = absurd (apart_names row r h (name_is row.name name named ∙ sym (name_is r.name name f)))
+        by false f = refl

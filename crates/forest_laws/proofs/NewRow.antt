@@ -110,23 +110,23 @@ under_kept schema rows front back new p kept parts split b among child sibling o
       split = b.split ∙ ap (λ (l : List Row). l ++ x ∷ b.tail) k.split ∙ append_assoc k.front (q ∷ k.behind) (x ∷ b.tail);
       child = under;
       low = all_append (not_above level new) k.behind (x ∷ b.tail)
-      (all_weaker (is_above level q) (not_above level new) (λ y e. low y (ltb-true (level q) (level y) e)) k.behind k.deeper)
-      (and_from (not_above level new x) (list_all (not_above level new) b.tail) (low x (omega (arith, beside))) (deeper_low level new b.tail b.deeper));
+          (all_weaker (is_above level q) (not_above level new) (λ y e. low y (ltb-true (level q) (level y) e)) k.behind k.deeper)
+          (and_from (not_above level new x) (list_all (not_above level new) b.tail) (low x (omega (arith, beside))) (deeper_low level new b.tail b.deeper));
     }
 
 -- a row that must stand before the new one is its parent, or a child of that parent
 pub stands_as : (schema : Schema) (new row : Row) → stands_before schema new row ≡ true → (is_parent row new ≡ true) ⊎ ((row.parent ≡ new.parent) × ((row.code < new.code) ⊎ (is_twin_before schema new row ≡ true)))
 stands_as schema new row h =
     elim (or_cases (is_parent row new || is_lower_child new row) (is_twin_before schema new row) h) [
-      inl a ↦ elim (or_cases (is_parent row new) (is_lower_child new row) a) [
-        inl parent ↦ inl parent
+      | inl a ↦ elim (or_cases (is_parent row new) (is_lower_child new row) a) [
+        | inl parent ↦ inl parent
         | inr lower ↦
-          let b = and_parts (same_parent row.parent new.parent) (nat_lt row.code new.code) lower in
-          inr (parents_are row.parent new.parent b.0, inl (ltb-true row.code new.code b.1))
+            let b = and_parts (same_parent row.parent new.parent) (nat_lt row.code new.code) lower in
+            inr (parents_are row.parent new.parent b.0, inl (ltb-true row.code new.code b.1))
       ]
       | inr twin ↦
-        let b = and_parts (are_twins row new) (goes_before (is_first schema new.code) (twin_cmp schema row new)) twin in
-        inr ((twins_are row new b.0).1, inr twin)
+          let b = and_parts (are_twins row new) (goes_before (is_first schema new.code) (twin_cmp schema row new)) twin in
+          inr ((twins_are row new b.0).1, inr twin)
     ]
 
 under_behind : (schema : Schema) (rows front back : List Row) (new p : Row) → IsKept schema → Parts schema rows → rows ≡ front ++ back → Behind schema new front → Among p rows → is_child_of schema.types (Some p) new ≡ true → UnderAt schema front new
@@ -134,9 +134,11 @@ under_behind schema rows front back new p kept parts split b among child = by (s
   where
     all : rows ≡ b.head ++ b.last ∷ (b.tail ++ back)
     all = split ∙ ap (λ (l : List Row). l ++ back) b.split ∙ append_assoc b.head (b.last ∷ b.tail) back
+
     beside : b.last.parent ≡ new.parent → IsRootRow b.last ⊎ ParentOf schema b.head b.last → UnderAt schema front new
     beside sibling (inl root) = let e = child_parent schema.types p new child in let f = root.1 in cc
     beside sibling (inr of) = under_kept schema rows front back new p kept parts split b among child sibling of
+
     by : (is_parent b.last new ≡ true) ⊎ ((b.last.parent ≡ new.parent) × ((b.last.code < new.code) ⊎ (is_twin_before schema new b.last ≡ true))) → UnderAt schema front new
     by (inl parent) = under_parent schema rows front back new p parts split b among child parent
     by (inr sibling) = beside sibling.0 (parent_before schema b.head (b.tail ++ back) b.last (subst (Parts schema) all parts))
@@ -146,11 +148,14 @@ under_at schema rows new p kept parts place among child = by place.last
   where
     parent : is_parent p new ≡ true
     parent = (and_parts (is_parent p new) (is_parent_code schema.types p.code new.code) child).0
+
     stands : stands_before schema new p ≡ true
     stands = or_left (is_parent p new || is_lower_child new p) (is_twin_before schema new p) (or_left (is_parent p new) (is_lower_child new p) parent)
+
     before : Among p place.front ⊎ Among p place.back → Among p place.front
     before (inl a) = a
     before (inr b) = absurd (both_ways (stands_before schema new p) (not-true (stands_before schema new p) (among_passes (λ row. not (stands_before schema new row)) p place.back b place.behind)) stands)
+
     by : Behind schema new place.front ⊎ (list_all (is_above (row_level schema.types) new) place.front ≡ true) → UnderAt schema place.front new
     by (inl b) = under_behind schema rows place.front place.back new p kept parts place.split b among child
     by (inr deeper) =
@@ -204,7 +209,7 @@ child_path schema rows front back new kept parts split u =
     let test : List Row × Row → Bool = λ q. is_parent q.1 new in
     let parent = (and_parts (is_parent p new) (is_parent_code types p.code new.code) u.child).0 in
     let other : (r : Row) → names_apart r p ≡ true → not (is_parent r new) ≡ true = λ r apart.
-        not_from_false (is_parent r new) (fails r apart (is_parent r new) refl parent) in
+    not_from_false (is_parent r new) (fails r apart (is_parent r new) refl parent) in
     let none : list_all (λ q. not (test q)) (with_paths level [] u.head) ≡ true =
     all_rows level (λ r. not (is_parent r new)) [] u.head
     ∙ all_weaker (λ r. names_apart r p) (λ r. not (is_parent r new)) other u.head (before_names u.head rest p (subst (λ (l : List Row). all_pairs names_apart l ≡ true) all parts.named)) in
@@ -219,6 +224,7 @@ child_path schema rows front back new kept parts split u =
     fails : (r : Row) → names_apart r u.above ≡ true → (b : Bool) → is_parent r new ≡ b → is_parent u.above new ≡ true → b ≡ false
     fails r apart true e parent = absurd (apart_names r u.above apart (same_some r.name u.above.name (sym (parent_is r new e) ∙ parent_is u.above new parent)))
     fails r apart false e parent = refl
+
     before_names : (front behind : List Row) (p : Row) → all_pairs names_apart (front ++ p ∷ behind) ≡ true → list_all (λ r. names_apart r p) front ≡ true
     before_names front behind p h = (pairs_at names_apart front behind p h).before
 

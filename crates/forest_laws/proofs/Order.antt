@@ -31,7 +31,7 @@ use Rattle.forest_laws.proofs.NewRow.{NewUnder, stands_as}
 pub type_order_is : (a b : Row) → in_type_order a b ≡ true → a.parent ≡ b.parent → a.code ≤ b.code
 type_order_is a b h e =
     elim (or_cases (not (same_parent a.parent b.parent)) (nat_le a.code b.code) h) [
-      inl apart ↦ absurd (both_ways (same_parent a.parent b.parent) (not-true (same_parent a.parent b.parent) apart) (parents_from a.parent b.parent e))
+      | inl apart ↦ absurd (both_ways (same_parent a.parent b.parent) (not-true (same_parent a.parent b.parent) apart) (parents_from a.parent b.parent e))
       | inr le ↦ leb-true a.code b.code le
     ]
 
@@ -45,7 +45,7 @@ type_order_from a b h = by (same_parent a.parent b.parent) refl
 pub twin_order_is : (schema : Schema) (a b : Row) → in_twin_order schema a b ≡ true → a.code ≡ b.code → a.parent ≡ b.parent → may_follow schema a b ≡ true
 twin_order_is schema a b h e f =
     elim (or_cases (not (are_twins a b)) (may_follow schema a b) h) [
-      inl apart ↦ absurd (both_ways (are_twins a b) (not-true (are_twins a b) apart) (twins_from a b e f))
+      | inl apart ↦ absurd (both_ways (are_twins a b) (not-true (are_twins a b) apart) (twins_from a b e f))
       | inr follows ↦ follows
     ]
 
@@ -113,7 +113,7 @@ behind_follows false first Greater h free = refl
 free_at : (schema : Schema) (rows : List Row) (new row : Row) → has_free_key schema rows new ≡ true → Among row rows → row.code ≡ new.code → row.parent ≡ new.parent → has_unique_key schema.types new.code ≡ true → is_eq (twin_cmp schema row new) ≡ false
 free_at schema rows new row h among e f unique =
     elim (or_cases (not (has_unique_key schema.types new.code)) (list_all (λ row. not (are_twins row new && is_eq (twin_cmp schema row new))) rows) h) [
-      inl no_key ↦ absurd (both_ways (has_unique_key schema.types new.code) (not-true (has_unique_key schema.types new.code) no_key) unique)
+      | inl no_key ↦ absurd (both_ways (has_unique_key schema.types new.code) (not-true (has_unique_key schema.types new.code) no_key) unique)
       | inr all ↦ by (is_eq (twin_cmp schema row new)) (twins_from row new e f) (not-true (are_twins row new && is_eq (twin_cmp schema row new)) (among_passes (λ row. not (are_twins row new && is_eq (twin_cmp schema row new))) row rows among all))
     ]
   where
@@ -160,6 +160,7 @@ beside_level schema rows new row kept parts under among e = at (among_split row 
         let here : Among q rows = subst (λ (l : List Row). Among q l) (sym (split ∙ ap (λ (l : List Row). l ++ row ∷ behind) k.split)) (among_left q (k.front ++ q ∷ k.behind) (row ∷ behind) (among_middle q k.front k.behind)) in
         let same : q ≡ p.0 = one_of_name rows q p.0 parts.named here p.1 named in
         child_level schema kept q row of.child ∙ ap (λ (r : Row). row_level schema.types r + 1) same ∙ sym (child_level schema kept p.0 new p.2)
+
     at : SplitAt row rows → row_level schema.types row ≡ row_level schema.types new
     at s = at_parent s.front s.behind s.split under (parent_before schema s.front s.behind row (subst (Parts schema) s.split parts))
 
@@ -174,10 +175,12 @@ no_child_before schema front behind above row parts h e = elim h [ inl among ↦
         let k = of.kept in
         no_other front behind above q parts.named (inl (within q (subst (λ (l : List Row). Among q l) (sym k.split) (among_middle q k.front k.behind))))
         (same_some q.name above.name (sym (child_parent schema.types q row of.child) ∙ e))
+
     early : SplitAt row front → ⊥
     early s =
         let split : front ++ above ∷ behind ≡ s.front ++ row ∷ (s.behind ++ above ∷ behind) = ap (λ (l : List Row). l ++ above ∷ behind) s.split ∙ append_assoc s.front (row ∷ s.behind) (above ∷ behind) in
         from_kept s.front (λ q a. subst (λ (l : List Row). Among q l) (sym s.split) (among_left q s.front (row ∷ s.behind) a)) (parent_before schema s.front (s.behind ++ above ∷ behind) row (subst (Parts schema) split parts))
+
     itself : row ≡ above → ⊥
     itself same = from_kept front (λ q a. a) (parent_before schema front behind row (subst (λ (r : Row). Parts schema (front ++ r ∷ behind)) (sym same) parts))
 
@@ -185,7 +188,7 @@ no_child_before schema front behind above row parts h e = elim h [ inl among ↦
 abbrev pub MayPrecede : Schema → Row → Row → Type 0
 MayPrecede schema a b = (a.parent ≡ b.parent → a.code ≤ b.code) × (a.code ≡ b.code → a.parent ≡ b.parent → may_follow schema a b ≡ true)
 
-abbrev Stands : Schema → Row → Row → Type 0
+abbrev pub Stands : Schema → Row → Row → Type 0
 Stands schema new row = (is_parent row new ≡ true) ⊎ ((row.parent ≡ new.parent) × ((row.code < new.code) ⊎ (is_twin_before schema new row ≡ true)))
 
 pub record Around (schema : Schema) (rows : List Row) (new : Row) : Type 0 where
@@ -230,20 +233,26 @@ behind_precedes schema rows front back new row a split b among = by (stands_as s
   where
     all : rows ≡ b.head ++ b.last ∷ (b.tail ++ back)
     all = split ∙ ap (λ (l : List Row). l ++ back) b.split ∙ append_assoc b.head (b.last ∷ b.tail) back
+
     parts : Parts schema (b.head ++ b.last ∷ (b.tail ++ back))
     parts = subst (Parts schema) all a.parts
+
     in_rows : (r : Row) → Among r front → Among r rows
     in_rows r h = subst (λ (l : List Row). Among r l) (sym split) (among_left r front back h)
+
     here : Among b.last rows
     here = subst (λ (l : List Row). Among b.last l) (sym all) (among_middle b.last b.head (b.tail ++ back))
+
     deep : Among row b.tail → MayPrecede schema row new
     deep h =
         let d = deeper_precedes schema rows new row a (in_rows row among) (among_passes (is_above (row_level schema.types) new) row b.tail h b.deeper) in
         (λ e. absurd (d e), λ c e. absurd (d e))
+
     no_child : is_parent b.last new ≡ true → Among row b.head ⊎ (row ≡ b.last) → MayPrecede schema row new
     no_child parent h =
         let d : row.parent ≡ new.parent → ⊥ = λ e. no_child_before schema b.head (b.tail ++ back) b.last row parts h (e ∙ parent_is b.last new parent) in
         (λ e. absurd (d e), λ c e. absurd (d e))
+
     by : Stands schema new b.last → Among row b.head ⊎ Among row (b.last ∷ b.tail) → MayPrecede schema row new
     by s (inr (inr h)) = deep h
     by (inl parent) (inl h) = no_child parent (inl h)

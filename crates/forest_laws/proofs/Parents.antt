@@ -113,6 +113,7 @@ parent_before schema front behind row parts =
     by_kept : (q : Row) → is_child_of schema.types (Some q) row ≡ true → Kept (row_level schema.types) q front ⊎ (Among q [] × (list_all (λ y. nat_lt (row_level schema.types q) (row_level schema.types y)) front ≡ true)) → ParentOf schema front row
     by_kept q child (inl k) = record { above = q; kept = k; child = child }
     by_kept q child (inr n) = absurd n.0
+
     by : EndsUnder schema.types None (filter (λ above. nat_lt (row_level schema.types above) (row_level schema.types row)) (path_after (row_level schema.types) [] front)) row → IsRootRow row ⊎ ParentOf schema front row
     by (inl root) = inl (root_row schema.types row root.0)
     by (inr more) =

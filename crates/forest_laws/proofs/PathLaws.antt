@@ -26,7 +26,7 @@ use Rattle.forest_laws.proofs.Parents.{Parts, parts_of, path_among, child_parent
 
 -- ---- of lists alone
 
-go_on_at : {X : Type 0} (level : X → ℕ) (path more : List X) (x : X) → list_all (λ above. nat_lt (level above) (level x)) path ≡ true → path_with level (path ++ more) x ≡ path ++ path_with level more x
+pub go_on_at : {X : Type 0} (level : X → ℕ) (path more : List X) (x : X) → list_all (λ above. nat_lt (level above) (level x)) path ≡ true → path_with level (path ++ more) x ≡ path ++ path_with level more x
 go_on_at level path more x h =
     ap (λ l. l ++ x ∷ []) (filter-append (λ above. nat_lt (level above) (level x)) path more)
     ∙ ap (λ l. (l ++ filter (λ above. nat_lt (level above) (level x)) more) ++ x ∷ []) (filter_all (λ above. nat_lt (level above) (level x)) path h)
@@ -38,6 +38,16 @@ go_on_from level path more [] h = refl
 go_on_from level path more (x ∷ below) h =
     let a = and_parts (list_all (λ above. nat_lt (level above) (level x)) path) (list_all (λ x. list_all (λ above. nat_lt (level above) (level x)) path) below) h in
     ap (λ l. (l, x) ∷ with_paths level l below) (go_on_at level path more x a.0) ∙ ap (λ l. (path ++ path_with level more x, x) ∷ l) (go_on_from level path (path_with level more x) below a.1)
+
+after_goes_from : {X : Type 0} (level : X → ℕ) (path more below : List X) → list_all (λ x. list_all (λ above. nat_lt (level above) (level x)) path) below ≡ true → path_after level (path ++ more) below ≡ path ++ path_after level more below
+after_goes_from level path more [] h = refl
+after_goes_from level path more (x ∷ below) h =
+    let a = and_parts (list_all (λ above. nat_lt (level above) (level x)) path) (list_all (λ x. list_all (λ above. nat_lt (level above) (level x)) path) below) h in
+    ap (λ l. path_after level l below) (go_on_at level path more x a.0) ∙ after_goes_from level path (path_with level more x) below a.1
+
+-- the path that such a list leaves goes on as well
+pub after_goes_on : {X : Type 0} (level : X → ℕ) (path below : List X) → list_all (λ x. list_all (λ above. nat_lt (level above) (level x)) path) below ≡ true → path_after level path below ≡ path ++ path_after level [] below
+after_goes_on level path below h = ap (λ l. path_after level l below) (sym (append-nil path)) ∙ after_goes_from level path [] below h
 
 pub paths_go_on : (X : Type 0) → PathsGoOn X
 paths_go_on X level path below h = ap (λ l. with_paths level l below) (sym (append-nil path)) ∙ go_on_from level path [] below h
@@ -210,13 +220,13 @@ last_row {X} (x ∷ xs) = by (last_row xs)
     by (inl e) = inr ([], x, ap (λ l. x ∷ l) e)
     by (inr s) = inr (x ∷ s.0, s.1, ap (λ l. x ∷ l) s.2)
 
-path_front : (types : List SegType) (up : Option Row) (xs ys : List Row) → is_path types up (xs ++ ys) ≡ true → is_path types up xs ≡ true
+pub path_front : (types : List SegType) (up : Option Row) (xs ys : List Row) → is_path types up (xs ++ ys) ≡ true → is_path types up xs ≡ true
 path_front types up [] ys h = refl
 path_front types up (x ∷ xs) ys h =
     let a = and_parts (is_child_of types up x) (is_path types (Some x) (xs ++ ys)) h in
     and_from (is_child_of types up x) (is_path types (Some x) xs) a.0 (path_front types (Some x) xs ys a.1)
 
-path_step : (types : List SegType) (up : Option Row) (xs : List Row) (above row : Row) → is_path types up ((xs ++ above ∷ []) ++ row ∷ []) ≡ true → is_child_of types (Some above) row ≡ true
+pub path_step : (types : List SegType) (up : Option Row) (xs : List Row) (above row : Row) → is_path types up ((xs ++ above ∷ []) ++ row ∷ []) ≡ true → is_child_of types (Some above) row ≡ true
 path_step types up [] above row h =
     (and_parts (is_child_of types (Some above) row) true (and_parts (is_child_of types up above) (is_child_of types (Some above) row && true) h).1).0
 path_step types up (x ∷ xs) above row h = path_step types (Some x) xs above row (and_parts (is_child_of types up x) (is_path types (Some x) ((xs ++ above ∷ []) ++ row ∷ [])) h).1
@@ -236,6 +246,7 @@ parents_at schema kept rows apart (suc most) path row le some h among = by (last
   where
     types : List SegType
     types = schema.types
+
     by : (path ≡ []) ⊎ ((ys : List Row) × (y : Row) × (path ≡ ys ++ y ∷ []))
         → ((q : Row) (p : List Row) → q.code ≤ most → 0 < q.code → is_path schema.types None (p ++ q ∷ []) ≡ true → ((x : Row) → Among x (p ++ q ∷ []) → Among x rows) → parents_within most rows q ≡ p ++ q ∷ [])
         → option_map_or (parents_within most rows) (option_and_then (row_named rows) row.parent) [] ++ row ∷ [] ≡ path ++ row ∷ []

@@ -24,7 +24,7 @@ use Rattle.hal_schema.specs.Forest.{all_pairs, names_apart, has_length, is_path,
 use Rattle.hal_schema.specs.Span.{with_content, replaced, keeps_freely, may_replace, may_be_replaced}
 use Rattle.forest_laws.specs.Keeping.{ReplacementKeeps}
 use Rattle.forest_laws.proofs.Lists.{Found, found, find_at, find_none, all_parts, all_append, all_weaker, all_both, all_without, pairs_at, PairsAt, pairs_with, pairs_without}
-use Rattle.forest_laws.proofs.Names.{name_is, name_from}
+use Rattle.forest_laws.proofs.Names.{others_behind}
 use Rattle.forest_laws.proofs.Carried.{with_append}
 use Rattle.forest_laws.proofs.Parents.{Parts, parts_of, forest_from}
 use Rattle.forest_laws.proofs.NewRow.{all_rows}
@@ -82,6 +82,7 @@ found_mapped types index g same key root (row ∷ path) = by (row.code == index.
   where
     rooted : (r : Option Row) (a b : Ilk) → a ≡ b → entry_named types key a r ≡ entry_named types key b r
     rooted r a b e = ap (λ (n : Ilk). entry_named types key n r) e
+
     by : (b : Bool) → (row.code == index.target) ≡ b → entry_with types key (find (λ r. r.code == index.target) (map g path)) root ≡ entry_with types key (find (λ r. r.code == index.target) path) root
         → entry_with types key (find (λ r. r.code == index.target) (g row ∷ map g path)) root ≡ entry_with types key (find (λ r. r.code == index.target) (row ∷ path)) root
     by true e rest =
@@ -166,36 +167,45 @@ index_renewed types old rows path row content g index r differ free = by (row.co
   where
     entries : List (List Row × Row) → List Entry
     entries = entries_by_row types index
+
     new : Row
     new = with_content row content
+
     raw : entries_by_row types index (paths_of types old) ≡ entries_by_row types index r.paths.front ++ entries_by_row types index ((path, row) ∷ r.paths.back)
     raw = ap (entries_by_row types index) r.paths.before ∙ entries_append types index r.paths.front ((path, row) ∷ r.paths.back)
+
     were : all_pairs keys_apart (entries_by_row types index r.paths.front ++ entries_by_row types index ((path, row) ∷ r.paths.back)) ≡ true
     were = sym (ap (all_pairs keys_apart) raw) ∙ sym (pairs_in_order (entries_by_row types index (paths_of types old))) ∙ differ
+
     are : entries_by_row types index (paths_of types rows) ≡ entries_by_row types index r.paths.front ++ entries_by_row types index ((map g path, with_content row content) ∷ map (both g) r.paths.back)
     are = ap (entries_by_row types index) r.paths.after ∙ entries_append types index (map (both g) r.paths.front) ((map g path, with_content row content) ∷ map (both g) r.paths.back)
         ∙ ap (λ (l : List Entry). l ++ entries_by_row types index ((map g path, with_content row content) ∷ map (both g) r.paths.back)) (r.front_stays index)
+
     goal : all_pairs keys_apart (entries_by_row types index r.paths.front ++ entries_by_row types index ((map g path, with_content row content) ∷ map (both g) r.paths.back)) ≡ true → entries_differ types rows index ≡ true
     goal h = pairs_in_order (entries_by_row types index (paths_of types rows)) ∙ ap (all_pairs keys_apart) are ∙ h
+
     none : ((row.code == index.source) ≡ false) ⊎ (entry_of types index path row ≡ None) → ((row.code == index.source) ≡ false) ⊎ (entry_of types index (map g path) (with_content row content) ≡ None) → entries_differ types rows index ≡ true
     none was is =
         let before : entries_by_row types index ((path, row) ∷ r.paths.back) ≡ entries_by_row types index r.paths.back = no_entry types index (path, row) r.paths.back was in
         let after : entries_by_row types index ((map g path, with_content row content) ∷ map (both g) r.paths.back) ≡ entries_by_row types index r.paths.back =
         no_entry types index (map g path, with_content row content) (map (both g) r.paths.back) is ∙ r.back_stays index in
         goal (ap (λ (l : List Entry). all_pairs keys_apart (entries_by_row types index r.paths.front ++ l)) (after ∙ sym before) ∙ were)
+
     own : List ℕ
     own = own_key types index path content
+
     keeps : (row.code == index.source) ≡ true → (bytes_eq (own_key types index path content) (own_key types index path row.content) ≡ true) ⊎ (list_all (λ (e : Entry). not (bytes_eq (own_key types index path content) e.key)) (entries_by_row types index (paths_of types old)) ≡ true)
     keeps source =
         let old_key = own_key types index path row.content in
         let new_key = own_key types index path content in
         elim (or_cases (not (row.code == index.source)) (bytes_eq new_key old_key || not (is_taken new_key (entries_of types index old))) free) [
-          inl other ↦ absurd (both_ways (row.code == index.source) (not-true (row.code == index.source) other) source)
+          | inl other ↦ absurd (both_ways (row.code == index.source) (not-true (row.code == index.source) other) source)
           | inr h ↦ elim (or_cases (bytes_eq new_key old_key) (not (is_taken new_key (entries_of types index old))) h) [
-            inl same ↦ inl same
+            | inl same ↦ inl same
             | inr fresh ↦ inr (untaken new_key (entries_by_row types index (paths_of types old)) fresh)
           ]
         ]
+
     by : (b : Bool) → (row.code == index.source) ≡ b → Shape types index path row → entries_differ types rows index ≡ true
     by false e shape = none (inl e) (inl e)
     by true e (NoEntry f) = none (inr (f row.content)) (inr (entry_mapped types index g r.same path (with_content row content) ∙ f content))
@@ -248,20 +258,6 @@ named_row schema rows name content (Some row) e h =
       may = sym (ap (λ (o : Option (List Row × Row)). option_map_or (λ p. may_replace schema rows content p.0 p.1) o false) here) ∙ h;
     }
 
--- no row behind the named one has its name
-others_behind : (rows front back : List Row) (row : Row) (name : Ilk) → all_pairs names_apart rows ≡ true → rows ≡ front ++ row ∷ back → same_name row.name name ≡ true → list_all (λ r. not (same_name r.name name)) back ≡ true
-others_behind rows front back row name apart split named =
-    let p = pairs_at names_apart front back row (subst (λ (l : List Row). all_pairs names_apart l ≡ true) split apart) in
-    let e = name_is row.name name named in
-    all_weaker (names_apart row) (λ r. not (same_name r.name name)) (λ r h. other r e h) back p.behind
-  where
-    other : (r : Row) → row.name ≡ name → names_apart row r ≡ true → not (same_name r.name name) ≡ true
-    other r e h = by (same_name r.name name) refl
-      where
-        by : (b : Bool) → same_name r.name name ≡ b → not b ≡ true
-        by true f = absurd (both_ways (same_name row.name r.name) (not-true (same_name row.name r.name) h) (name_from row.name r.name (e ∙ sym (name_is r.name name f))))
-        by false f = refl
-
 same_renewed : (types : List SegType) (name : Ilk) (content : List ℕ) → Same types (renewed types name content)
 same_renewed types name content = record { name = renewed_name types name content; code = renewed_code types name content; key = renewed_key types name content }
 
@@ -277,7 +273,7 @@ renewal schema rows name content parts r key =
     let first = with_paths level [] r.front in
     let last = with_paths level path r.back in
     let before : paths_of types rows ≡ first ++ (path, r.row) ∷ last = ap (paths_of types) r.split ∙ with_append level [] r.front (r.row ∷ r.back) in
-    let behind = others_behind rows r.front r.back r.row name parts.named r.split r.named in
+    let behind = others_behind r.front r.back r.row name (subst (λ (l : List Row). all_pairs names_apart l ≡ true) r.split parts.named) r.named in
     let renewed_rows : map g rows ≡ r.front ++ new ∷ r.back =
     ap (map g) r.split ∙ map-append g r.front (r.row ∷ r.back) ∙ ap (λ (l : List Row). l ++ g r.row ∷ map g r.back) (others_renewed types name content r.front r.others)
     ∙ ap (λ (x : Row). r.front ++ x ∷ map g r.back) (this_renewed types name content r.row r.named key) ∙ ap (λ (l : List Row). r.front ++ new ∷ l) (others_renewed types name content r.back behind) in
@@ -318,12 +314,12 @@ replacement_kept schema rows name content forest may =
     let a = and_parts (has_length types new && bytes_eq (row_key types new) (row_key types r.row)) (list_all (keeps_freely types rows content path r.row) schema.indexes) r.may in
     let b = and_parts (has_length types new) (bytes_eq (row_key types new) (row_key types r.row)) a.0 in
     let key : row_key types r.row ≡ row_key types new = sym ((bytes_eq-Decides (row_key types new) (row_key types r.row)).0 b.1) in
-    let behind = others_behind rows r.front r.back r.row name parts.named r.split r.named in
+    let behind = others_behind r.front r.back r.row name (subst (λ (l : List Row). all_pairs names_apart l ≡ true) r.split parts.named) r.named in
     let is = renewal schema rows name content parts r b.1 in
     let P : List Row × Row → Bool = λ p. is_path types None p.0 in
     let g = renewed types name content in
     let mapped : (paths : List (List Row × Row)) → list_all P paths ≡ true → list_all P (map (both g) paths) ≡ true = λ paths h.
-        list_all-map P (both g) paths ∙ all_weaker P (λ p. P (both g p)) (λ p e. path_renewed types name content p.0 ∙ e) paths h in
+    list_all-map P (both g) paths ∙ all_weaker P (λ p. P (both g p)) (λ p e. path_renewed types name content p.0 ∙ e) paths h in
     let old = all_parts P is.paths.front ((path, r.row) ∷ is.paths.back) (sym (ap (list_all P) is.paths.before) ∙ parts.placed) in
     let last = and_parts (P (path, r.row)) (list_all P is.paths.back) old.1 in
     subst (λ (l : List Row). is_forest schema l ≡ true) (sym (replaced_rows rows r.front r.back r.row name content r.split r.named r.others behind))
@@ -332,13 +328,13 @@ replacement_kept schema rows name content forest may =
       named = pairs_swap names_apart r.front r.back r.row new (λ x. refl) (λ x. refl) (subst (λ (l : List Row). all_pairs names_apart l ≡ true) r.split parts.named);
       long = all_swap (has_length types) r.front r.back r.row new (subst (λ (l : List Row). list_all (has_length types) l ≡ true) r.split parts.long) b.0;
       placed = ap (list_all P) is.paths.after
-      ∙ all_append P (map (both g) is.paths.front) ((map g path, new) ∷ map (both g) is.paths.back) (mapped is.paths.front old.0)
-      (and_from (P (map g path, new)) (list_all P (map (both g) is.paths.back)) (path_renewed types name content path ∙ last.0) (mapped is.paths.back last.1));
+          ∙ all_append P (map (both g) is.paths.front) ((map g path, new) ∷ map (both g) is.paths.back) (mapped is.paths.front old.0)
+          (and_from (P (map g path, new)) (list_all P (map (both g) is.paths.back)) (path_renewed types name content path ∙ last.0) (mapped is.paths.back last.1));
       types = pairs_swap in_type_order r.front r.back r.row new (λ x. refl) (λ x. refl) (subst (λ (l : List Row). all_pairs in_type_order l ≡ true) r.split parts.types);
       twins = pairs_swap (in_twin_order schema) r.front r.back r.row new (λ x. ap (order_to schema x r.row) key) (λ x. ap (λ k. order_of schema r.row k x) key) (subst (λ (l : List Row). all_pairs (in_twin_order schema) l ≡ true) r.split parts.twins);
       selected = pairs_selected schema r.front r.back r.row content key (subst (λ (l : List Row). list_all (is_selected schema) l ≡ true) r.split parts.selected);
       indexed = all_both (entries_differ types rows) (keeps_freely types rows content path r.row) (entries_differ types (r.front ++ new ∷ r.back))
-      (λ index d f. index_renewed types rows (r.front ++ new ∷ r.back) path r.row content g index is d f) schema.indexes parts.indexed a.1;
+          (λ index d f. index_renewed types rows (r.front ++ new ∷ r.back) path r.row content g index is d f) schema.indexes parts.indexed a.1;
     }))
   where
     pairs_selected : (schema : Schema) (front back : List Row) (row : Row) (content : List ℕ) → row_key schema.types row ≡ row_key schema.types (with_content row content) → list_all (is_selected schema) (front ++ row ∷ back) ≡ true → list_all (is_selected schema) (front ++ with_content row content ∷ back) ≡ true

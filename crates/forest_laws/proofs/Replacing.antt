@@ -58,6 +58,7 @@ filter_mapped level g same x (p ∷ path) = by (nat_lt (level p) (level x)) refl
   where
     test : nat_lt (level (g p)) (level (g x)) ≡ nat_lt (level p) (level x)
     test = ap (λ n. nat_lt n (level (g x))) (same p) ∙ ap (λ n. nat_lt (level p) n) (same x)
+
     by : (b : Bool) → nat_lt (level p) (level x) ≡ b → filter (λ above. nat_lt (level above) (level (g x))) (map g path) ≡ map g (filter (λ above. nat_lt (level above) (level x)) path)
         → cond (nat_lt (level (g p)) (level (g x))) (g p ∷ filter (λ above. nat_lt (level above) (level (g x))) (map g path)) (filter (λ above. nat_lt (level above) (level (g x))) (map g path))
         ≡ map g (cond (nat_lt (level p) (level x)) (p ∷ filter (λ above. nat_lt (level above) (level x)) path) (filter (λ above. nat_lt (level above) (level x)) path))

@@ -16,7 +16,7 @@ use Rattle.hal_schema.specs.Span.{span_of, without_span}
 use Rattle.hal_schema.specs.Forest.{all_pairs, names_apart}
 use Rattle.forest_laws.specs.Spans.{is_on, SpansAreBelow, IsCut, CutsAreSpans, those_in, LeavesAnchors, CutsLeaveAnchors}
 use Rattle.forest_laws.proofs.Lists.{Among, among_passes, among_append, among_left, among_right, among_middle, among_split, all_among, all_append, all_parts, all_weaker, filter_all, filter_none, all_in_filtered, all_filtered, find_at, pairs_at, PairsParts, pairs_parts}
-use Rattle.forest_laws.proofs.Names.{name_is, name_from, apart_names}
+use Rattle.forest_laws.proofs.Names.{name_is, name_from, apart_names, others_behind}
 use Rattle.forest_laws.proofs.Carried.{is_above, above_in, with_append, passed_over}
 use Rattle.forest_laws.proofs.Parents.{Parts, parts_of}
 use Rattle.forest_laws.proofs.CutKeeps.{CutAt, NoCut, cut_of}
@@ -73,8 +73,10 @@ apart_parts front middle back h x y a b e = by (among_append y front back b)
   where
     p : PairsParts names_apart front (middle ++ back)
     p = pairs_parts names_apart front (middle ++ back) h
+
     q : PairsParts names_apart middle back
     q = pairs_parts names_apart middle back p.back
+
     by : Among y front ⊎ Among y back → ⊥
     by (inl f) = apart_names y x (among_passes (names_apart y) x (middle ++ back) (among_left x middle back a) (among_passes (λ z. list_all (names_apart z) (middle ++ back)) y front f p.across)) e
     by (inr g) = apart_names x y (among_passes (names_apart x) y back g (among_passes (λ z. list_all (names_apart z) back) x middle a q.across)) (sym e)
@@ -87,7 +89,7 @@ cuts_leave_anchors schema rows name forest c =
     let apart = subst (λ (l : List Row). all_pairs names_apart l ≡ true) c.whole parts.named in
     let stays : (part : List Row) → ((x : Row) → Among x part → Among x (c.front ++ c.back)) → those_in left part ≡ part = λ part h. kept_rows left part (λ x a. subst (λ (l : List Row). Among x l) (sym c.cut) (h x a)) in
     let goes : (part : List Row) → ((x : Row) → Among x part → Among x span) → those_in left part ≡ [] = λ part h.
-        left_out left part (λ x y a b e. apart_parts c.front span c.back apart x y (h x a) (subst (λ (l : List Row). Among y l) c.cut b) e) in
+    left_out left part (λ x y a b e. apart_parts c.front span c.back apart x y (h x a) (subst (λ (l : List Row). Among y l) c.cut b) e) in
     let test : Row → Bool = λ row. not (is_new_name left row.name) in
     let whole_front : those_in left c.front ≡ c.front = stays c.front (λ x a. among_left x c.front c.back a) in
     record {
@@ -104,26 +106,25 @@ cuts_leave_anchors schema rows name forest c =
 
 -- ---- a span
 
-any_none : {X : Type 0} (p : X → Bool) (xs : List X) → list_all (λ x. not (p x)) xs ≡ true → list_any p xs ≡ false
+pub any_none : {X : Type 0} (p : X → Bool) (xs : List X) → list_all (λ x. not (p x)) xs ≡ true → list_any p xs ≡ false
 any_none p [] h = refl
 any_none p (x ∷ xs) h =
     let a = and_parts (not (p x)) (list_all (λ x. not (p x)) xs) h in
     ap (λ b. b || list_any p xs) (not-true (p x) a.0) ∙ any_none p xs a.1
 
-any_middle : {X : Type 0} (p : X → Bool) (xs ys : List X) (x : X) → p x ≡ true → list_any p (xs ++ x ∷ ys) ≡ true
+pub any_middle : {X : Type 0} (p : X → Bool) (xs ys : List X) (x : X) → p x ≡ true → list_any p (xs ++ x ∷ ys) ≡ true
 any_middle p [] ys x h = or_left (p x) (list_any p ys) h
 any_middle p (y ∷ xs) ys x h = or_right (p y) (list_any p (xs ++ x ∷ ys)) (any_middle p xs ys x h)
 
--- the paths of a list of which none has a row of the name, behind a path that has none
-paths_off : (level : Row → ℕ) (name : Ilk) (path rows : List Row) → list_all (λ r. not (same_name r.name name)) path ≡ true → list_all (λ r. not (same_name r.name name)) rows ≡ true → filter (λ p. is_on name p.0) (with_paths level path rows) ≡ []
-paths_off level name path [] h k = refl
-paths_off level name path (row ∷ rows) h k =
-    let test : Row → Bool = λ r. not (same_name r.name name) in
-    let a = and_parts (test row) (list_all test rows) k in
-    let grown : list_all test (path_with level path row) ≡ true = all_append test (above_in level path row) (row ∷ []) (all_in_filtered test (λ above. nat_lt (level above) (level row)) path h) (and_from (test row) true a.0 refl) in
-    let off : is_on name (path_with level path row) ≡ false = any_none (λ r. same_name r.name name) (path_with level path row) grown in
-    ap (λ b. cond b ((path_with level path row, row) ∷ filter (λ p. is_on name p.0) (with_paths level (path_with level path row) rows)) (filter (λ p. is_on name p.0) (with_paths level (path_with level path row) rows))) off
-    ∙ paths_off level name (path_with level path row) rows grown a.1
+-- the paths of a list of which no row passes, behind a path of which none does
+pub paths_off : (level : Row → ℕ) (test : Row → Bool) (path rows : List Row) → list_all (λ r. not (test r)) path ≡ true → list_all (λ r. not (test r)) rows ≡ true → filter (λ (p : List Row × Row). list_any test p.0) (with_paths level path rows) ≡ []
+paths_off level test path [] h k = refl
+paths_off level test path (row ∷ rows) h k =
+    let fails : Row → Bool = λ r. not (test r) in
+    let a = and_parts (fails row) (list_all fails rows) k in
+    let grown : list_all fails (path_with level path row) ≡ true = all_append fails (above_in level path row) (row ∷ []) (all_in_filtered fails (λ above. nat_lt (level above) (level row)) path h) (and_from (fails row) true a.0 refl) in
+    let rest = filter (λ (p : List Row × Row). list_any test p.0) (with_paths level (path_with level path row) rows) in
+    ap (λ b. cond b ((path_with level path row, row) ∷ rest) rest) (any_none test (path_with level path row) grown) ∙ paths_off level test (path_with level path row) rows grown a.1
 
 -- all that goes on with a path that has the name
 paths_on : (level : Row → ℕ) (name : Ilk) (front tail : List Row) (row : Row) (paths : List (List Row × Row)) → same_name row.name name ≡ true
@@ -135,21 +136,9 @@ paths_on level name front tail row (p ∷ paths) h =
     let rest = filter (λ (q : List Row × Row). is_on name q.0) (map (λ (p : List Row × Row). ((front ++ row ∷ tail) ++ p.0, p.1)) paths) in
     ap (λ b. map (λ (p : List Row × Row). p.1) (cond b (((front ++ row ∷ tail) ++ p.0, p.1) ∷ rest) rest)) on ∙ ap (λ (l : List Row). p.1 ∷ l) (paths_on level name front tail row paths h)
 
-paths_rows : (level : Row → ℕ) (path rows : List Row) → map (λ (p : List Row × Row). p.1) (with_paths level path rows) ≡ rows
+pub paths_rows : (level : Row → ℕ) (path rows : List Row) → map (λ (p : List Row × Row). p.1) (with_paths level path rows) ≡ rows
 paths_rows level path [] = refl
 paths_rows level path (row ∷ rows) = ap (λ (l : List Row). row ∷ l) (paths_rows level (path_with level path row) rows)
-
--- rows behind the named one have other names
-others_behind : (front back : List Row) (row : Row) (name : Ilk) → all_pairs names_apart (front ++ row ∷ back) ≡ true → same_name row.name name ≡ true → list_all (λ r. not (same_name r.name name)) back ≡ true
-others_behind front back row name apart named =
-    all_weaker (names_apart row) (λ r. not (same_name r.name name)) (λ r h. other r h) back (pairs_at names_apart front back row apart).behind
-  where
-    other : (r : Row) → names_apart row r ≡ true → not (same_name r.name name) ≡ true
-    other r h = by (same_name r.name name) refl
-      where
-        by : (b : Bool) → same_name r.name name ≡ b → not b ≡ true
-        by true f = absurd (apart_names row r h (name_is row.name name named ∙ sym (name_is r.name name f)))
-        by false f = refl
 
 span_at : (schema : Schema) (rows : List Row) (name : Ilk) → Parts schema rows → (c : CutAt schema.types rows name) → c.row ∷ c.below ≡ map (λ (p : List Row × Row). p.1) (filter (λ (p : List Row × Row). is_on name p.0) (paths_of schema.types rows))
 span_at schema rows name parts c =
@@ -168,8 +157,8 @@ span_at schema rows name parts c =
     ∙ ap (λ (l : List (List Row × Row)). first ++ ((path, c.row) ∷ (mid ++ l))) (passed_over level above (c.row ∷ c.below) c.back c.next) in
     let behind = all_parts test c.below c.back (others_behind c.front (c.below ++ c.back) c.row name (subst (λ (l : List Row). all_pairs names_apart l ≡ true) c.split parts.named) c.named) in
     let off_above : list_all test above ≡ true = all_among test above (λ x a. among_passes test x c.front (path_within level x c.front a) c.others) in
-    let none_first : filter on first ≡ [] = paths_off level name [] c.front refl c.others in
-    let none_last : filter on last ≡ [] = paths_off level name above c.back off_above behind.1 in
+    let none_first : filter on first ≡ [] = paths_off level (λ r. same_name r.name name) [] c.front refl c.others in
+    let none_last : filter on last ≡ [] = paths_off level (λ r. same_name r.name name) above c.back off_above behind.1 in
     let here : on (path, c.row) ≡ true = any_middle (λ r. same_name r.name name) (above_in level above c.row) [] c.row c.named in
     let deep : list_all (λ x. list_all (λ a. nat_lt (level a) (level x)) path) c.below ≡ true =
     all_weaker (is_above level c.row) (λ x. list_all (λ a. nat_lt (level a) (level x)) path)
@@ -192,4 +181,4 @@ spans_are_below schema rows name forest = by (cut_of schema.types rows name)
   where
     by : CutAt schema.types rows name ⊎ NoCut schema.types rows name → span_of schema.types rows name ≡ map (λ (p : List Row × Row). p.1) (filter (λ (p : List Row × Row). is_on name p.0) (paths_of schema.types rows))
     by (inl c) = c.span ∙ span_at schema rows name (parts_of schema rows forest) c
-    by (inr c) = c.span ∙ sym (ap (map (λ (p : List Row × Row). p.1)) (paths_off (row_level schema.types) name [] rows refl c.none))
+    by (inr c) = c.span ∙ sym (ap (map (λ (p : List Row × Row). p.1)) (paths_off (row_level schema.types) (λ r. same_name r.name name) [] rows refl c.none))

@@ -1,5 +1,5 @@
 -- Forests that there are, so that no law has a condition that can't be met: the empty one, and one of three levels with two indexes.
-use Rattle.std.specs.Prelude.{ℕ, Bool, true, false, ◌&&◌, [], ◌∷◌, List, Option, None, Some, codes, fold, refl, ◌≡◌, IsTrue}
+use Rattle.std.specs.Prelude.{ℕ, Bool, true, false, ◌&&◌, [], ◌∷◌, List, Option, None, Some, codes, fold, map, refl, ◌≡◌, IsTrue}
 use Rattle.std.specs.List.{list_any}
 use Rattle.hal_base.specs.declared.place.Ilk.{Ilk}
 use Rattle.hal_schema.specs.declared.row.Row.{Row}
@@ -9,7 +9,11 @@ use Rattle.hal_schema.specs.declared.schema.Schema.{Schema}
 use Rattle.hal_schema.specs.declared.schema.SegType.{SegType}
 use Rattle.hal_schema.specs.Forest.{is_forest}
 use Rattle.hal_schema.specs.Insertion.{inserted, may_be_inserted}
+use Rattle.hal_schema.specs.Paths.{paths_of}
 use Rattle.hal_schema.specs.Span.{without_span, replaced, may_be_replaced}
+use Rattle.forest_laws.specs.Paths.{path_by_parents}
+use Rattle.forest_laws.specs.Places.{IsByRule}
+use Rattle.forest_laws.specs.Spans.{LeavesAnchors}
 
 abbrev pub EmptyIsForest : Type 0
 EmptyIsForest = (schema : Schema) → IsTrue (is_forest schema [])
@@ -102,7 +106,7 @@ example_rows =
 -- the rows as they came
 abbrev pub rows_as_they_came : List Row
 rows_as_they_came =
-    root_row 96 (codes "700bb") ∷ root_row 16 (codes "001aa") ∷ child_row 112 4 16 (codes "u") ∷ child_row 32 2 16 (codes "01xx") ∷ child_row 48 3 32 (codes "g1") ∷ child_row 64 3 32 (codes "g2") ∷ child_row 80 2 16 (codes "01yy") ∷ []
+    root_row 96 (codes "700bb") ∷ root_row 16 (codes "001aa") ∷ child_row 32 2 16 (codes "01xx") ∷ child_row 48 3 32 (codes "g1") ∷ child_row 112 4 16 (codes "u") ∷ child_row 64 3 32 (codes "g2") ∷ child_row 80 2 16 (codes "01yy") ∷ []
 
 -- each of the rows may be inserted behind those before it
 abbrev pub may_come : List Row → List Row → Bool
@@ -141,3 +145,15 @@ pub record IsExample : Type 0 where
   pub changed : replaced (root_row 16 (codes "001aa") ∷ root_row 96 (codes "700bb") ∷ []) (name_at 96) (codes "700cc") ≡ root_row 16 (codes "001aa") ∷ root_row 96 (codes "700cc") ∷ []
   pub key_changed : may_be_replaced example_schema example_rows (name_at 96) (codes "800cc") ≡ false
   pub key_taken : may_be_replaced example_schema example_rows (name_at 96) (codes "700aa") ≡ false
+
+-- what the laws say of the example: each of them at rows that meet its conditions
+abbrev pub another_row : Row
+another_row = child_row 128 2 96 (codes "05zz")
+
+pub record MeetsLaws : Type 0 where
+  pub inserted_keeps : is_forest example_schema (inserted example_schema example_rows another_row) ≡ true
+  pub cut_keeps : is_forest example_schema (without_span example_types example_rows (name_at 32)) ≡ true
+  pub replaced_keeps : is_forest example_schema (replaced example_rows (name_at 96) (codes "700cc")) ≡ true
+  pub by_rule : IsByRule example_schema example_rows another_row
+  pub anchors : LeavesAnchors example_schema example_rows (name_at 32) (record { front = root_row 16 (codes "001aa") ∷ []; back = child_row 80 2 16 (codes "01yy") ∷ child_row 112 4 16 (codes "u") ∷ root_row 96 (codes "700bb") ∷ []; whole = refl; cut = refl })
+  pub by_parents : paths_of example_types example_rows ≡ map (λ row. (path_by_parents example_rows row, row)) example_rows

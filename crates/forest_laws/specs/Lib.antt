@@ -3,3 +3,4 @@ pub mod Paths
 pub mod Spans
 pub mod Entries
 pub mod Examples
+pub mod Places

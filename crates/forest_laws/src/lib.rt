@@ -6,13 +6,18 @@ mod entries;
 mod examples;
 mod keeping;
 mod paths;
+mod places;
 mod spans;
 
 pub use entries::{entries_are_in_key_order, entries_are_of_sources};
-pub use examples::{empty_is_forest, example_is_forest};
+pub use examples::{empty_is_forest, example_is_forest, example_meets_the_laws};
 pub use keeping::{cut_keeps, insertion_keeps, replacement_keeps};
 pub use paths::{
     keys_are_long, paths_append, paths_are_ancestries, paths_are_by_parents, paths_begin_anew,
     paths_go_on,
 };
+pub use places::insertions_are_by_rule;
 pub use spans::{cuts_are_spans, cuts_leave_anchors, spans_are_below};
+
+#[cfg(test)]
+mod tests;
