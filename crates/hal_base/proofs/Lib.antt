@@ -1,2 +1,3 @@
 pub mod ImageLemmas
+pub mod ShelfLemmas
 pub mod StopLemmas

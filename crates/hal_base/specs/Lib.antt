@@ -1,8 +1,12 @@
+pub mod Bytes
 pub mod Disk
 pub mod Fault
 pub mod Name
+pub mod Outcome
 pub mod Pages
 pub mod Room
 pub mod Said
+pub mod ShelfCalls
 pub mod Stops
+pub mod StoreCalls
 pub mod StoredName

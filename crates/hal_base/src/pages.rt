@@ -1,7 +1,7 @@
-ghost use Rattle.std.specs.Prelude.{◌≡◌, ◌+◌, ◌-◌, ◌^◌, ◌<◌, ◌≤◌, ◌++◌, ◌∷◌, [], ℕ, Bool, Option, List, length, min, replicate, slice_get, slice_set, All, IfOk, IfSome, OnOk, OnErr, IsErrOf, IsTrue, Some};
+ghost use Rattle.std.specs.Prelude.{◌≡◌, ◌↔◌, ◌+◌, ◌-◌, ◌^◌, ◌<◌, ◌≤◌, ◌++◌, ◌∷◌, [], ℕ, Option, None, Some, length, min, replicate, slice_get, slice_set, All, IfOk, IfSome, OnOk, OnErr, IsErr, IsErrOf, IsTrue, MatchResult};
 ghost use Rattle.std.specs.Option.{option_map};
-ghost use Rattle.hal_base.specs.Fault.{HasCause, HasCauseFor};
-ghost use Rattle.hal_base.specs.Pages.{empty_page, page_head, rises_from, SameHead, SameSets, SameOthers};
+ghost use Rattle.hal_base.specs.Pages.{empty_page, page_head, rises_from, SameHead};
+ghost use Rattle.hal_base.specs.ShelfCalls.{ShelfView, Keeps, SameShelf, GrownBy, OnlyReads, OnlyChanges};
 
 use crate::{BLOCK, Failed, Live, PageFault, StageFault, put16};
 
@@ -43,86 +43,55 @@ pub fn empty_page(set: SetId, kind: u8, page: u16) -> [u8; BLOCK]
 pub trait Shelf: Live {
     ghost use Rattle.hal_base.specs.declared.pages.SetId.{SetId};
 
-    /// The pages of a data set, by their numbers.
-    ghost pages_in: { Self → SetId → Option (List (List ℕ)) };
-
-    /// The numbers of their blocks.
-    ghost places: { Self → SetId → List ℕ };
-
-    /// The numbers of the free blocks, rising.
-    ghost free: { Self → List ℕ };
-
-    /// Whether a block of this data set and kind would be live, with a kind that fits the letter.
-    ghost takes: { Self → SetId → ℕ → Bool };
-
-    /// How often the disk has failed.
-    ghost disk_faults: { Self → ℕ };
-
-    /// How many blocks were fetched.
-    ghost fetches: { Self → ℕ };
+    /// What is seen of the shelf.
+    ghost seen: { Self → ShelfView };
 
     /// What no call of a shelf changes: what was committed and said, what a stop may leave, and the blocks of
     /// no data set.
     ghost steady: { Self → Self → Type 0 };
 
     fn pages(&self, set: SetId) -> u32
-        ensures { result ≡ length (places self.now set) };
+        ensures { result ≡ length ((seen self.now).places set) };
 
     fn fetch_page(&mut self, set: SetId, n: u16, into: &mut [u8; BLOCK]) -> Result<(), Failed>
-        requires live { IsTrue (Self.live self.old) }
-        requires below { n < length (places self.old set) }
-        ensures page { OnOk result (IfSome (pages_in self.old set) (λ pages. slice_get pages n ≡ Some into.new)) }
-        ensures pages { SameSets (pages_in self.old) (pages_in self.new) }
-        ensures places { SameSets (places self.old) (places self.new) }
-        ensures free { free self.new ≡ free self.old }
-        ensures steady { steady self.old self.new }
-        ensures cause { HasCause (disk_faults self.old) (disk_faults self.new) result }
-        ensures fetches { fetches self.new ≡ min (fetches self.old + 1) (2 ^ 64 - 1) }
-        ensures live { OnOk result (IsTrue (Self.live self.new)) };
+        requires live { IsTrue (seen self.old).live }
+        requires below { n < length ((seen self.old).places set) }
+        ensures page { OnOk result (IfSome ((seen self.old).pages set) (λ pages. slice_get pages n ≡ Some into.new)) }
+        ensures leaves { OnlyReads 1 (steady self.old self.new) (IsErr result) (seen self.old) (seen self.new) }
+        ensures fetches { (seen self.new).fetches ≡ min ((seen self.old).fetches + 1) (2 ^ 64 - 1) };
 
     /// Puts a page in the place of one, with the same head but for the count of rows.
     fn stage_page(&mut self, set: SetId, n: u16, from: &[u8; BLOCK]) -> Result<(), StageFault>
-        requires live { IsTrue (Self.live self.old) }
-        requires below { n < length (places self.old set) }
-        requires head { IfSome (pages_in self.old set) (λ pages. IfSome (slice_get pages n) (λ page. SameHead page from.now)) }
-        ensures page { OnOk result (pages_in self.new set ≡ option_map (λ pages. slice_set pages n from.now) (pages_in self.old set)) }
-        ensures others { SameOthers set (pages_in self.old) (pages_in self.new) }
-        ensures unchanged { OnErr result (SameSets (pages_in self.old) (pages_in self.new)) }
-        ensures places { SameSets (places self.old) (places self.new) }
-        ensures free { free self.new ≡ free self.old }
-        ensures steady { steady self.old self.new }
-        ensures cause { HasCauseFor (disk_faults self.old) (disk_faults self.new) result StageFault.Failed }
-        ensures fetches { fetches self.old ≤ fetches self.new }
-        ensures live { (result ≡ Err StageFault.Failed → ⊥) → IsTrue (Self.live self.new) };
+        requires live { IsTrue (seen self.old).live }
+        requires below { n < length ((seen self.old).places set) }
+        requires head { IfSome ((seen self.old).pages set) (λ pages. IfSome (slice_get pages n) (λ page. SameHead page from.now)) }
+        ensures page { OnOk result ((seen self.new).pages set ≡ option_map (λ pages. slice_set pages n from.now) ((seen self.old).pages set)) }
+        ensures unchanged { OnErr result (SameShelf (seen self.old) (seen self.new)) }
+        ensures leaves { OnlyChanges set (steady self.old self.new) (IsErrOf result StageFault.Failed) (seen self.old) (seen self.new) };
 
     /// Adds an empty page to a data set, and answers its number. It takes the free block of least number.
     fn grow(&mut self, set: SetId, kind: u8) -> Result<u16, PageFault>
-        requires live { IsTrue (Self.live self.old) }
-        requires takes { IsTrue (takes self.old set kind) }
-        ensures number { IfOk result (λ n. n ≡ length (places self.old set)) }
-        ensures page { IfOk result (λ n. pages_in self.new set ≡ option_map (λ pages. pages ++ empty_page kind set n ∷ []) (pages_in self.old set)) }
-        ensures block { OnOk result ((block : ℕ) × (free self.old ≡ block ∷ free self.new) × (places self.new set ≡ places self.old set ++ block ∷ [])) }
-        ensures others { SameOthers set (pages_in self.old) (pages_in self.new) }
-        ensures other_places { SameOthers set (places self.old) (places self.new) }
-        ensures unchanged { OnErr result (SameSets (pages_in self.old) (pages_in self.new)) }
-        ensures unmoved { OnErr result (SameSets (places self.old) (places self.new)) }
-        ensures kept { OnErr result (free self.new ≡ free self.old) }
-        ensures no_room { IsErrOf result PageFault.NoRoom → free self.old ≡ [] }
-        ensures steady { steady self.old self.new }
-        ensures cause { HasCauseFor (disk_faults self.old) (disk_faults self.new) result PageFault.Failed }
-        ensures fetches { fetches self.old ≤ fetches self.new }
-        ensures live { (result ≡ Err PageFault.Failed → ⊥) → IsTrue (Self.live self.new) };
+        requires live { IsTrue (seen self.old).live }
+        requires takes { IsTrue ((seen self.old).takes set kind) }
+        ensures number { IfOk result (λ n. n ≡ length ((seen self.old).places set)) }
+        ensures page { IfOk result (λ n. (seen self.new).pages set ≡ option_map (λ pages. pages ++ empty_page kind set n ∷ []) ((seen self.old).pages set)) }
+        ensures leaves { MatchResult result (λ n. GrownBy 1 set (seen self.old) (seen self.new)) (λ fault. SameShelf (seen self.old) (seen self.new)) }
+        ensures no_room { IsErrOf result PageFault.NoRoom ↔ ((seen self.old).free ≡ []) }
+        ensures keeps { Keeps (steady self.old self.new) (IsErrOf result PageFault.Failed) (seen self.old) (seen self.new) };
+
+    ghost alive: { (shelf : Self) → (seen shelf).live ≡ Self.live shelf };
 
     /// A page has 4,096 bytes, and there is one for each block that the data set has.
-    ghost pages_are: { (shelf : Self) (set : SetId) (pages : List (List ℕ)) → pages_in shelf set ≡ Some pages → (length pages ≡ length (places shelf set)) × All (λ page. length page ≡ 4096) pages };
+    ghost pages_are: { (shelf : Self) (set : SetId) → IfSome ((seen shelf).pages set) (λ pages. (length pages ≡ length ((seen shelf).places set)) × All (λ page. length page ≡ 4096) pages) };
 
-    ghost few: { (shelf : Self) (set : SetId) → length (places shelf set) + length (free shelf) ≤ 65536 };
+    /// The pages of all data sets are told, or those of none.
+    ghost told_alike: { (shelf : Self) (set other : SetId) → (seen shelf).pages set ≡ None → (seen shelf).pages other ≡ None };
 
-    ghost free_rises: { (shelf : Self) → IsTrue (rises_from 0 (free shelf)) };
+    ghost few: { (shelf : Self) (set : SetId) → length ((seen shelf).places set) + length (seen shelf).free ≤ 65536 };
+
+    ghost free_rises: { (shelf : Self) → IsTrue (rises_from 0 (seen shelf).free) };
 
     ghost steady_none: { (shelf : Self) → steady shelf shelf };
 
     ghost steady_then: { (a b c : Self) → steady a b → steady b c → steady a c };
-
-    ghost steady_takes: { (a b : Self) (set : SetId) (kind : ℕ) → steady a b → takes b set kind ≡ takes a set kind };
 }

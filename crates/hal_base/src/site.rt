@@ -1,4 +1,4 @@
-ghost use Rattle.std.specs.Prelude.{◌≡◌, ◌+◌, ◌-◌, ◌^◌, ◌≤◌, ℕ, Option, List, length, take, drop, IfOk, OnOk, OnErr, IfSome, IsSomeAnd};
+ghost use Rattle.std.specs.Prelude.{◌≡◌, ◌+◌, ◌-◌, ◌^◌, ◌≤◌, ℕ, Option, List, length, take, drop, IfOk, OnOk, OnErr, IfSome, IsSomeAnd, Some};
 ghost use Rattle.std.specs.Option.{option_map};
 ghost use Rattle.std.specs.Io.KnownBytes.{Appends};
 ghost use Rattle.hal_base.specs.Disk.{written, TearsTold};
@@ -80,4 +80,7 @@ pub trait Site {
 
     /// Between two calls a stop leaves just what was said.
     ghost said_now: { (site : Self) (bytes text : List ℕ) → left_at site (moment site) bytes text → IsTold (said site) text };
+
+    /// Where a stop at this moment leaves anything, it may leave just the image that reads and what was said.
+    ghost reads_now: { (site : Self) (bytes text : List ℕ) (reads words : List ℕ) → left_at site (moment site) bytes text → image site ≡ Some reads → said site ≡ Some words → left_at site (moment site) reads words };
 }
