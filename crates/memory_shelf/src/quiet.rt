@@ -36,13 +36,13 @@ impl Live for QuietShelf {
 
 impl Shelf for QuietShelf {
     ghost seen = { λ s. record {
-        pages = λ _. None;
-        places = λ set. places_of set 0 s.shelf.owners.items;
-        free = range_with_len (length s.shelf.owners.items) (s.shelf.count - length s.shelf.owners.items);
-        takes = λ _ _. true;
-        disk_faults = 0;
-        fetches = s.shelf.fetches;
-        live = true;
+      pages = λ _. None;
+      places = λ set. places_of set 0 s.shelf.owners.items;
+      free = range_with_len (length s.shelf.owners.items) (s.shelf.count - length s.shelf.owners.items);
+      takes = λ _ _. true;
+      disk_faults = 0;
+      fetches = s.shelf.fetches;
+      live = true;
     } };
 
     ghost steady = { λ _ _. ⊤ };

@@ -108,13 +108,13 @@ impl Live for MemShelf {
 
 impl Shelf for MemShelf {
     ghost seen = { λ s. record {
-        pages = λ set. Some (pages_of set s.owners.items s.pages.items);
-        places = λ set. places_of set 0 s.owners.items;
-        free = range_with_len (length s.owners.items) (s.count - length s.owners.items);
-        takes = λ _ _. true;
-        disk_faults = 0;
-        fetches = s.fetches;
-        live = true;
+      pages = λ set. Some (pages_of set s.owners.items s.pages.items);
+      places = λ set. places_of set 0 s.owners.items;
+      free = range_with_len (length s.owners.items) (s.count - length s.owners.items);
+      takes = λ _ _. true;
+      disk_faults = 0;
+      fetches = s.fetches;
+      live = true;
     } };
 
     ghost steady = { λ _ _. ⊤ };
