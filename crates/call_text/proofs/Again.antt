@@ -1,4 +1,5 @@
 -- What is spelled is read: names, words, values and operators.
+use Rattle.hal_base.specs.Reading.{◌>>=◌}
 use Rattle.std.proofs.Common.{◌≡◌, ℕ, suc, ◌<◌, Bool, true, false, ◌==◌, List, [], ◌∷◌, ◌++◌, length, map, Ok, refl, sym, ap, ◌∙◌, append_assoc, arith}
 use Rattle.std.specs.List.{list_all, flat_map}
 use Rattle.std.proofs.lemmas.Bool.{eqb-true}
@@ -9,7 +10,7 @@ use Rattle.call_text.specs.declared.line.Value.TheVariants.{Text, Hex}
 use Rattle.call_text.specs.Words.{is_blank, past, in_word, is_word}
 use Rattle.call_text.specs.Printing.{doubled}
 use Rattle.call_text.specs.Spelling.{IsGap, SpellsName, SpellsWord, SpellsPairs, SpellsValue}
-use Rattle.call_text.specs.Reading.{◌>>=◌, name_at, word_at, text_at, pairs_at, hex_at, value_at}
+use Rattle.call_text.specs.Reading.{name_at, word_at, text_at, pairs_at, hex_at, value_at}
 use Rattle.call_text.proofs.Loops.{onto}
 use Rattle.call_text.proofs.Runs.{Stops, past_run, take_run, name_bytes, word_bytes, in_words}
 

@@ -1,4 +1,6 @@
 -- What is read is spelled so: operators, clauses and SSAs.
+use Rattle.hal_base.specs.Reading.{◌>>=◌}
+use Rattle.hal_base.specs.Bytes.{is_printable}
 use Rattle.std.proofs.Common.{◌≡◌, ℕ, zero, suc, ◌<◌, ◌&&◌, ◌||◌, Bool, true, false, cond, nat_lt, ◌==◌, List, [], ◌∷◌, ◌++◌, length, map, Option, Some, None, Result, Ok, Err, refl, sym, ap, subst, ◌∙◌, append_assoc, arith, inl, inr}
 use Rattle.std.specs.List.{list_all, take_while}
 use Rattle.std.proofs.lemmas.Bool.{eqb-true}
@@ -10,10 +12,9 @@ use Rattle.call_text.specs.declared.fault.Fault.TheVariants as faults
 use Rattle.call_text.specs.declared.line.Clause.{Clause}
 use Rattle.call_text.specs.declared.line.Ssa.{Ssa}
 use Rattle.call_text.specs.Words.{is_blank, past, in_word, is_letter, is_word, printed_operator, begins_with}
-use Rattle.call_text.specs.Printing.{is_printable}
 use Rattle.call_text.specs.Printed.{is_sign}
 use Rattle.call_text.specs.Spelling.{IsRoom, SpellsWord, SpellsOperator, SpellsClause, StandsBefore, is_connector, SpellsClauses, SpellsQualification, SpellsCodes, SpellsSsa, SpellsSsas}
-use Rattle.call_text.specs.Reading.{◌>>=◌, name_at, word_at, value_at, begins_blank, operator_word_at, operator_at, clause_at, connector_at, clause_and_connector_at, clauses_at, codes_at, behind, qualification_at, ssa_at, begins_word, begins_ssa, ssas_at}
+use Rattle.call_text.specs.Reading.{name_at, word_at, value_at, begins_blank, operator_word_at, operator_at, clause_at, connector_at, clause_and_connector_at, clauses_at, codes_at, behind, qualification_at, ssa_at, begins_word, begins_ssa, ssas_at}
 use Rattle.call_text.proofs.Loops.{onto}
 use Rattle.call_text.proofs.Runs.{both, Stops}
 use Rattle.call_text.proofs.ValuesPrinted.{Prints}

@@ -1,4 +1,5 @@
 -- A wrong count is where the first fault is.
+use Rattle.hal_base.specs.Bytes.{is_printable}
 use Rattle.std.proofs.Common.{◌≡◌, ℕ, ◌⊎◌, inl, inr, true, false, List, [], ◌∷◌, ◌++◌, Ok, Err, refl, sym, ap, subst, ◌∙◌, ap₂, append_assoc, append-nil}
 use Rattle.std.specs.List.{list_all}
 use Rattle.std.proofs.lemmas.List.Folds.{list_all-append}
@@ -6,7 +7,6 @@ use Rattle.call_text.specs.declared.fault.Fault.TheVariants as faults
 use Rattle.call_text.specs.declared.line.Line.{Line}
 use Rattle.call_text.specs.declared.line.Line.TheVariants as lines
 use Rattle.call_text.specs.declared.line.Command.TheVariants.{Step}
-use Rattle.call_text.specs.Printing.{is_printable}
 use Rattle.call_text.specs.Words.{is_number, is_count}
 use Rattle.call_text.specs.Spelling.{IsGap, SpellsReorg, SpellsForm}
 use Rattle.call_text.specs.Faults.{Begins, EndsAt, FirstFault, EndsWord, IsWrongCount}

@@ -1,4 +1,5 @@
 -- Each live state goes on to a line.
+use Rattle.hal_base.specs.Bytes.{is_printable}
 use Rattle.std.proofs.Common.{◌≡◌, ℕ, ◌&&◌, ◌||◌, Bool, true, false, cond, nat_lt, nat_le, ◌==◌, List, [], ◌∷◌, ◌++◌, length, map, refl, sym, ap, ◌∙◌, ap₂, arith, length-append, codes}
 use Rattle.std.specs.List.{list_all, take_while}
 use Rattle.std.specs.Str.{bytes_eq}
@@ -6,7 +7,6 @@ use Rattle.std.proofs.lemmas.Bool.{eqb-true}
 use Rattle.std.proofs.lemmas.Bool.Decides.{nat_tests}
 use Rattle.std.proofs.lemmas.Slice.Eq.{bytes_eq-Decides}
 use Rattle.hal_base.specs.Name.{is_name, is_digit, upper}
-use Rattle.call_text.specs.Printing.{is_printable}
 use Rattle.call_text.specs.Words.{in_word, past, is_word, is_number, is_count, is_reserved}
 use Rattle.call_text.specs.Reading.{cause_of}
 use Rattle.call_text.proofs.Runs.{both, take_run, past_run, all_weaker}

@@ -1,4 +1,5 @@
 -- The first fault of a line, and its cause.
+use Rattle.hal_base.specs.Bytes.{is_printable}
 use Rattle.std.proofs.Common.{◌≡◌, ℕ, Bool, true, false, cond, nat_lt, List, [], ◌∷◌, ◌++◌, length, Result, Ok, Err, refl, sym, ap, subst, ◌∙◌, append_assoc, arith, append-nil, ap₂}
 use Rattle.std.specs.List.{list_all, take_while}
 use Rattle.std.proofs.lemmas.Bool.{ltb-false, ltb-true}
@@ -7,7 +8,6 @@ use Rattle.call_text.specs.declared.fault.Fault.{Fault}
 use Rattle.call_text.specs.declared.fault.Fault.TheVariants as faults
 use Rattle.call_text.specs.declared.line.Line.{Line}
 use Rattle.call_text.specs.declared.line.Line.TheVariants as lines
-use Rattle.call_text.specs.Printing.{is_printable}
 use Rattle.call_text.specs.Words.{is_blank, past, is_silent}
 use Rattle.call_text.specs.Faults.{Begins, EndsAt, FirstFault, is_open, IsWrongCount, HasFault, IsBadBy, IsCaused}
 use Rattle.call_text.specs.Reading.{cause_of, form_at, line_or_cause, line_of}

@@ -1,4 +1,6 @@
 -- Byte by byte a line gets the verdict that reading gives it.
+use Rattle.hal_base.specs.Reading.{◌>>=◌}
+use Rattle.hal_base.specs.Numbers.{number_of}
 use Rattle.std.proofs.Common.{◌≡◌, ℕ, ◌&&◌, ◌||◌, Bool, true, false, cond, List, [], ◌∷◌, map, Option, Some, None, Result, Ok, Err, refl, sym, ap, ◌∙◌, codes}
 use Rattle.std.specs.List.{take_while}
 use Rattle.std.specs.Str.{bytes_eq}
@@ -9,8 +11,8 @@ use Rattle.call_text.specs.declared.line.Command.{Command}
 use Rattle.call_text.specs.declared.line.Command.TheVariants.{Start, Step, Pause, Resume, Finish, Query}
 use Rattle.call_text.specs.declared.line.Line.{Line}
 use Rattle.call_text.specs.declared.line.Line.TheVariants as lines
-use Rattle.call_text.specs.Words.{is_blank, in_word, past, is_number, is_count, number_of, is_reserved}
-use Rattle.call_text.specs.Reading.{◌>>=◌, cause_of, name_at, word_at, is_end, call_at, session_at, index_at, open_at, count_at, or_form, command_at, reorg_at, form_at}
+use Rattle.call_text.specs.Words.{is_blank, in_word, past, is_number, is_count, is_reserved}
+use Rattle.call_text.specs.Reading.{cause_of, name_at, word_at, is_end, call_at, session_at, index_at, open_at, count_at, or_form, command_at, reorg_at, form_at}
 use Rattle.call_text.proofs.Runs.{Stops}
 use Rattle.call_text.proofs.Taken.{past_stops, past_prints, name_taken}
 use Rattle.call_text.proofs.States.{State, a_first, a_session, an_option, an_index, a_verb, a_part, a_count, at_first, at_func, at_session, at_option, at_index, at_verb, at_part, at_count, at_end, at, is_verb, after, enter, gap_or, judge, word_judge}

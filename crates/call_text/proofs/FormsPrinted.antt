@@ -1,4 +1,5 @@
 -- What is printed spells what was printed: operators, clauses, SSAs and lines.
+use Rattle.hal_base.specs.Bytes.{is_printable}
 use Rattle.std.proofs.Common.{◌≡◌, ℕ, ◌<◌, Bool, true, false, cond, List, [], ◌∷◌, ◌++◌, length, map, refl, sym, ap, subst, ◌∙◌, append_assoc, arith, inl, inr, codes}
 use Rattle.std.specs.List.{list_all, flat_map}
 use Rattle.std.specs.Str.{bytes_eq}
@@ -7,7 +8,7 @@ use Rattle.std.proofs.lemmas.Bool.Decides.{nat_tests}
 use Rattle.hal_base.specs.Name.{upper}
 use Rattle.call_text.specs.declared.line.Clause.{Clause}
 use Rattle.call_text.specs.Words.{is_letter, printed_operator}
-use Rattle.call_text.specs.Printing.{is_printable, printed_value}
+use Rattle.call_text.specs.Printing.{printed_value}
 use Rattle.call_text.specs.Printed.{is_sign, operator_text, bytes_of, clause_text, connector, joined_clause}
 use Rattle.call_text.specs.Plain.{plain_clause}
 use Rattle.call_text.specs.Spelling.{SpellsOperatorWord, SpellsOperator, SpellsClause, StandsBefore, is_connector, SpellsClauses}

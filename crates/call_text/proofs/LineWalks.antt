@@ -1,4 +1,6 @@
 -- Byte by byte a line gets the verdict that its forms get.
+use Rattle.hal_base.specs.Reading.{◌>>=◌}
+use Rattle.hal_base.specs.Bytes.{is_printable}
 use Rattle.std.proofs.Common.{◌≡◌, ℕ, zero, suc, ◌<◌, ◌≤◌, ◌&&◌, ◌||◌, Bool, true, false, cond, ◌==◌, List, [], ◌∷◌, length, Option, Some, None, Result, Ok, Err, refl, sym, ap, ◌∙◌, arith, length-append, length-drop}
 use Rattle.std.specs.List.{list_all, take_while, prefix_len}
 use Rattle.call_text.specs.declared.fault.Fault.{Fault}
@@ -7,11 +9,10 @@ use Rattle.call_text.specs.declared.line.Clause.{Clause}
 use Rattle.call_text.specs.declared.line.Ssa.{Ssa}
 use Rattle.call_text.specs.declared.line.Value.{Value}
 use Rattle.call_text.specs.Words.{is_blank, in_word, past, begins_with}
-use Rattle.call_text.specs.Reading.{◌>>=◌, name_at, word_at, value_at, begins_blank, clause_at, connector_at, clause_and_connector_at, clauses_at, codes_at, behind, qualification_at, ssa_at, begins_word, begins_ssa, ssas_at, is_end, given_at, call_at}
+use Rattle.call_text.specs.Reading.{name_at, word_at, value_at, begins_blank, clause_at, connector_at, clause_and_connector_at, clauses_at, codes_at, behind, qualification_at, ssa_at, begins_word, begins_ssa, ssas_at, is_end, given_at, call_at}
 use Rattle.call_text.proofs.Loops.{onto}
 use Rattle.call_text.proofs.Runs.{both, Stops}
 use Rattle.call_text.proofs.Stopping.{other_byte, word_blank}
-use Rattle.call_text.specs.Printing.{is_printable}
 use Rattle.call_text.specs.Spelling.{SpellsSsa}
 use Rattle.call_text.proofs.Taken.{past_stops, past_prints, name_taken, word_taken, Taken}
 use Rattle.call_text.proofs.States.{State, a_func, a_seg, a_code, at_func, behind_seg, at_code, between, at_field, at_value, behind_clause, at_end, at, dead, between_step, enter, place_step, judge, word_judge}

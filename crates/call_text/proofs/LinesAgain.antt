@@ -1,4 +1,5 @@
 -- What is spelled is read: the forms, and the line.
+use Rattle.hal_base.specs.Numbers.{number_of}
 use Rattle.std.proofs.Common.{◌≡◌, ℕ, ◌<◌, ◌≤◌, ◌||◌, Bool, true, false, nat_lt, ◌==◌, List, [], ◌∷◌, ◌++◌, length, Option, Some, None, Ok, refl, sym, ap, subst, ◌∙◌, append_assoc, arith, length-append, codes}
 use Rattle.std.specs.List.{list_all}
 use Rattle.std.specs.Str.{bytes_eq}
@@ -10,7 +11,7 @@ use Rattle.call_text.specs.declared.line.Command.{Command}
 use Rattle.call_text.specs.declared.line.Command.TheVariants.{Start, Step, Pause, Resume, Finish, Query}
 use Rattle.call_text.specs.declared.line.Line.{Line}
 use Rattle.call_text.specs.declared.line.Line.TheVariants as lines
-use Rattle.call_text.specs.Words.{is_blank, past, in_word, is_word, is_number, is_count, number_of, begins_with, is_reserved, is_silent}
+use Rattle.call_text.specs.Words.{is_blank, past, in_word, is_word, is_number, is_count, begins_with, is_reserved, is_silent}
 use Rattle.call_text.specs.Printed.{command_word}
 use Rattle.call_text.specs.Spelling.{IsGap, IsRoom, SpellsName, SpellsWord, SpellsSsas, SpellsGiven, SpellsIndex, SpellsCount, SpellsForm, SpellsWhole, Spells}
 use Rattle.call_text.specs.Reading.{begins_word, call_at, session_at, index_at, open_at, count_at, command_at, reorg_at, form_at, line_of}

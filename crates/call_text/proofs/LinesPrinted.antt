@@ -1,4 +1,6 @@
 -- What is printed spells what was printed: SSAs and lines.
+use Rattle.hal_base.specs.Bytes.{is_printable}
+use Rattle.hal_base.specs.Numbers.{number_of}
 use Rattle.std.proofs.Common.{◌≡◌, ℕ, ◌+◌, ◌-◌, ◌*◌, ◌≤◌, ◌&&◌, Bool, true, false, cond, nat_le, nat_lt, List, [], ◌∷◌, ◌++◌, length, map, Option, Some, None, refl, sym, ap, subst, ◌∙◌, append_assoc, arith, codes, rules}
 use Rattle.std.specs.List.{list_all, flat_map, fold, AllByRecursion}
 use Rattle.std.specs.Fmt.{decimal}
@@ -17,8 +19,8 @@ use Rattle.call_text.specs.declared.line.Command.{Command}
 use Rattle.call_text.specs.declared.line.Command.TheVariants.{Start, Step, Pause, Resume, Finish, Query}
 use Rattle.call_text.specs.declared.line.Line.{Line}
 use Rattle.call_text.specs.declared.line.Line.TheVariants as lines
-use Rattle.call_text.specs.Words.{is_number, is_count, number_of}
-use Rattle.call_text.specs.Printing.{is_printable, printed_value}
+use Rattle.call_text.specs.Words.{is_number, is_count}
+use Rattle.call_text.specs.Printing.{printed_value}
 use Rattle.call_text.specs.Printed.{bytes_of, operator_text, clause_text, joined_clause, clauses_text, codes_text, ssa_text, next_ssa, given_text, call_text, index_text, open_text, command_word, count_text, reorg_text, printed_line}
 use Rattle.call_text.specs.Plain.{plain_value, plain_clause, plain_ssa, plain_given, plain_call, plain_line, IsPlainValue, IsPlainClause, IsPlainSsa, IsPlainGiven, IsPlain}
 use Rattle.call_text.specs.Spelling.{IsRoom, SpellsName, SpellsQualification, SpellsCodes, SpellsSsa, SpellsSsas, SpellsGiven, SpellsCall, SpellsIndex, SpellsOpen, SpellsCount, SpellsReorg, SpellsForm, SpellsWhole, Spells}

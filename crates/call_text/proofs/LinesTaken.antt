@@ -1,4 +1,7 @@
 -- What is read is spelled so: the forms, and the line.
+use Rattle.hal_base.specs.Reading.{◌>>=◌}
+use Rattle.hal_base.specs.Bytes.{is_printable}
+use Rattle.hal_base.specs.Numbers.{number_of}
 use Rattle.std.proofs.Common.{◌≡◌, ℕ, ◌<◌, ◌≤◌, ◌||◌, Bool, true, false, cond, nat_lt, ◌==◌, List, [], ◌∷◌, ◌++◌, length, Option, Some, None, Result, Ok, Err, refl, sym, ap, subst, ◌∙◌, append_assoc, arith, codes}
 use Rattle.std.specs.List.{list_all, take_while}
 use Rattle.std.specs.Str.{bytes_eq}
@@ -14,11 +17,10 @@ use Rattle.call_text.specs.declared.line.Command.{Command}
 use Rattle.call_text.specs.declared.line.Command.TheVariants.{Start, Step, Pause, Resume, Finish, Query}
 use Rattle.call_text.specs.declared.line.Line.{Line}
 use Rattle.call_text.specs.declared.line.Line.TheVariants as lines
-use Rattle.call_text.specs.Words.{is_blank, past, in_word, is_number, is_count, number_of, is_reserved, is_silent}
-use Rattle.call_text.specs.Printing.{is_printable}
+use Rattle.call_text.specs.Words.{is_blank, past, in_word, is_number, is_count, is_reserved, is_silent}
 use Rattle.call_text.specs.Printed.{command_word, HasForm}
 use Rattle.call_text.specs.Spelling.{IsGap, IsRoom, SpellsName, SpellsGiven, SpellsCall, SpellsIndex, SpellsOpen, SpellsCount, SpellsReorg, SpellsForm, Spells}
-use Rattle.call_text.specs.Reading.{◌>>=◌, name_at, word_at, value_at, begins_word, is_end, ssas_at, given_at, call_at, session_at, index_at, open_at, count_at, plain_command, or_form, command_at, reorg_at, form_at, line_or_cause, line_of}
+use Rattle.call_text.specs.Reading.{name_at, word_at, value_at, begins_word, is_end, ssas_at, given_at, call_at, session_at, index_at, open_at, count_at, plain_command, or_form, command_at, reorg_at, form_at, line_or_cause, line_of}
 use Rattle.call_text.proofs.Runs.{Stops}
 use Rattle.call_text.proofs.ValuesPrinted.{Prints}
 use Rattle.call_text.proofs.Taken.{bind_ok, passed, refused, ok_is, parts_of, blanks_of, past_prints, prints_parts, WordTaken, name_taken, word_taken, room_of, run_begins, value_taken}

@@ -1,4 +1,5 @@
 -- Reading one part after the other, as a loop does.
+use Rattle.hal_base.specs.Reading.{◌>>=◌}
 use Rattle.std.proofs.Common.{◌≡◌, ℕ, zero, suc, ◌+◌, ◌-◌, ◌*◌, ◌<◌, ◌&&◌, arith, Bool, true, false, cond, ◌==◌, List, [], ◌∷◌, ◌++◌, Option, Some, None, Result, Ok, Err, refl, sym, ap, ◌∙◌, append_assoc}
 use Rattle.std.proofs.lemmas.List.{append-nil}
 use Rattle.call_text.specs.declared.fault.Fault.{Fault}
@@ -8,7 +9,7 @@ use Rattle.call_text.specs.declared.fault.ReadError.TheVariants as errors
 use Rattle.call_text.specs.declared.line.Clause.{Clause}
 use Rattle.call_text.specs.declared.line.Ssa.{Ssa}
 use Rattle.call_text.specs.Words.{is_blank, past, is_hex, hex_value}
-use Rattle.call_text.specs.Reading.{◌>>=◌, Fails, clause_and_connector_at, clauses_at, begins_ssa, ssa_at, ssas_at, text_byte_at, text_at, close_at, pair_at, pairs_at}
+use Rattle.call_text.specs.Reading.{Fails, clause_and_connector_at, clauses_at, begins_ssa, ssa_at, ssas_at, text_byte_at, text_at, close_at, pair_at, pairs_at}
 
 -- what was read before, and what is still read
 abbrev pub with_front : {A : Type 0} → List A → Result (List A × List ℕ) Fault → Result (List A × List ℕ) Fault

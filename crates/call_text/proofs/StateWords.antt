@@ -1,4 +1,5 @@
 -- A word is judged as a whole.
+use Rattle.hal_base.specs.Numbers.{number_of}
 use Rattle.std.proofs.Common.{◌≡◌, ℕ, zero, suc, ◌+◌, ◌-◌, ◌*◌, ◌<◌, ◌≤◌, ◌&&◌, ◌||◌, Bool, true, false, cond, nat_lt, nat_le, List, [], ◌∷◌, ◌++◌, length, map, refl, sym, ap, subst, ◌∙◌, append_assoc, append-nil, arith, length-append, eq-eqb, fold, ap₂, codes}
 use Rattle.std.specs.List.{list_all, take_while, prefix_len}
 use Rattle.std.specs.Str.{bytes_eq}
@@ -9,7 +10,7 @@ use Rattle.std.proofs.lemmas.List.Folds.{list_all-append}
 use Rattle.hal_base.specs.Name.{is_name, is_name_letter, is_name_byte, is_digit, upper}
 use Rattle.call_text.specs.declared.fault.Fault.{Fault}
 use Rattle.call_text.specs.declared.fault.Fault.TheVariants as faults
-use Rattle.call_text.specs.Words.{in_word, past, is_letter, is_letter_or_digit, is_word, is_number, is_count, number_of}
+use Rattle.call_text.specs.Words.{in_word, past, is_letter, is_letter_or_digit, is_word, is_number, is_count}
 use Rattle.call_text.specs.Reading.{cause_of}
 use Rattle.call_text.proofs.Runs.{both}
 use Rattle.call_text.proofs.States.{Kind, State, a_first, a_func, a_seg, a_code, a_field, an_operator, a_session, an_option, an_index, a_verb, a_part, a_count, at, within, dead, over, is_operator, begins_count, is_front, is_verb, begins_verb, fits, begins, bad, after, stuck, grow, place_step, word_step, over_step, judge, word_judge}

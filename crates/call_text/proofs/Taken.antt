@@ -1,4 +1,6 @@
 -- What is read is spelled so: names, words and values.
+use Rattle.hal_base.specs.Reading.{◌>>=◌}
+use Rattle.hal_base.specs.Bytes.{is_printable}
 use Rattle.std.proofs.Common.{◌≡◌, ℕ, suc, ◌+◌, ◌*◌, ◌<◌, ◌&&◌, Bool, true, false, cond, ◌==◌, List, [], ◌∷◌, ◌++◌, length, map, Result, Ok, Err, refl, sym, ap, subst, ◌∙◌, append_assoc, arith}
 use Rattle.std.specs.List.{list_all, flat_map, prefix_len, take_while}
 use Rattle.std.proofs.lemmas.Bool.{eqb-true}
@@ -12,9 +14,9 @@ use Rattle.call_text.specs.declared.fault.Fault.TheVariants as faults
 use Rattle.call_text.specs.declared.line.Value.{Value}
 use Rattle.call_text.specs.declared.line.Value.TheVariants.{Text, Hex}
 use Rattle.call_text.specs.Words.{is_blank, past, in_word, is_word, is_hex, hex_value}
-use Rattle.call_text.specs.Printing.{is_printable, doubled, quoted}
+use Rattle.call_text.specs.Printing.{doubled, quoted}
 use Rattle.call_text.specs.Spelling.{IsGap, IsRoom, SpellsName, SpellsWord, SpellsPairs, SpellsHex, SpellsValue}
-use Rattle.call_text.specs.Reading.{◌>>=◌, name_at, word_at, text_at, close_at, pairs_at, hex_at, value_at, begins_word}
+use Rattle.call_text.specs.Reading.{name_at, word_at, text_at, close_at, pairs_at, hex_at, value_at, begins_word}
 use Rattle.call_text.proofs.Loops.{onto}
 use Rattle.call_text.proofs.Runs.{both, Stops}
 use Rattle.call_text.proofs.ValuesPrinted.{Prints}

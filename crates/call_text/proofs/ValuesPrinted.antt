@@ -1,4 +1,5 @@
 -- What is printed spells what was printed: names, words, values and operators.
+use Rattle.hal_base.specs.Bytes.{is_printable}
 use Rattle.std.proofs.Common.{◌≡◌, ℕ, ◌+◌, ◌*◌, ◌/◌, ◌%◌, ◌<◌, Bool, true, false, cond, ◌==◌, List, [], ◌∷◌, ◌++◌, map, refl, ◌∙◌, arith}
 use Rattle.std.specs.List.{list_all, flat_map}
 use Rattle.std.proofs.lemmas.List.Folds.{list_all-append}
@@ -6,7 +7,7 @@ use Rattle.hal_base.specs.Name.{is_name_byte, upper}
 use Rattle.call_text.specs.Words.{is_hex, hex_value}
 use Rattle.call_text.specs.declared.line.Value.{Value}
 use Rattle.call_text.specs.declared.line.Value.TheVariants.{Text, Hex}
-use Rattle.call_text.specs.Printing.{is_printable, doubled, quoted, hex_digit, hex_pair, in_hex, printed_value}
+use Rattle.call_text.specs.Printing.{doubled, quoted, hex_digit, hex_pair, in_hex, printed_value}
 use Rattle.call_text.specs.Printed.{bytes_of}
 use Rattle.call_text.specs.Plain.{plain_value}
 use Rattle.call_text.specs.Spelling.{SpellsName, SpellsWord, SpellsPairs, SpellsHex, SpellsValue}

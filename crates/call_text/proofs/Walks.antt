@@ -1,4 +1,5 @@
 -- Byte by byte a line gets the verdict that its parts get.
+use Rattle.hal_base.specs.Reading.{◌>>=◌}
 use Rattle.std.proofs.Common.{◌≡◌, ℕ, suc, ◌+◌, ◌*◌, ◌&&◌, Bool, true, false, cond, ◌==◌, List, [], ◌∷◌, length, map, Result, Ok, Err, refl, sym, ap, ◌∙◌, arith}
 use Rattle.std.specs.List.{take_while, prefix_len}
 use Rattle.std.proofs.lemmas.Bool.Decides.{nat_tests}
@@ -10,7 +11,7 @@ use Rattle.call_text.specs.declared.line.Value.{Value}
 use Rattle.call_text.specs.declared.line.Value.TheVariants.{Text, Hex}
 use Rattle.call_text.specs.Printed.{is_sign}
 use Rattle.call_text.specs.Words.{is_blank, in_word, past, is_word, is_hex, hex_value, printed_operator}
-use Rattle.call_text.specs.Reading.{◌>>=◌, cause_of, name_at, word_at, text_at, pairs_at, hex_at, value_at, begins_blank, operator_word_at, operator_at, clause_at}
+use Rattle.call_text.specs.Reading.{cause_of, name_at, word_at, text_at, pairs_at, hex_at, value_at, begins_blank, operator_word_at, operator_at, clause_at}
 use Rattle.call_text.proofs.Loops.{onto}
 use Rattle.call_text.proofs.Runs.{Stops}
 use Rattle.call_text.proofs.Stopping.{other_byte}

@@ -1,4 +1,6 @@
 -- Only in the place of a step's count a count is wrong.
+use Rattle.hal_base.specs.Reading.{◌>>=◌}
+use Rattle.hal_base.specs.Numbers.{number_of}
 use Rattle.std.proofs.Common.{◌≡◌, ℕ, ◌<◌, ◌&&◌, ◌||◌, Bool, true, false, cond, ◌==◌, List, [], ◌∷◌, ◌++◌, length, map, refl, ap, subst, ◌∙◌, arith, codes}
 use Rattle.std.specs.List.{list_all, take_while}
 use Rattle.std.specs.Str.{bytes_eq}
@@ -6,7 +8,7 @@ use Rattle.hal_base.specs.Name.{is_name, is_digit, upper}
 use Rattle.call_text.specs.declared.fault.Fault.{Fault}
 use Rattle.call_text.specs.declared.fault.Fault.TheVariants as faults
 use Rattle.call_text.specs.Printed.{is_sign}
-use Rattle.call_text.specs.Words.{is_blank, in_word, past, is_number, is_count, number_of, is_hex}
+use Rattle.call_text.specs.Words.{is_blank, in_word, past, is_number, is_count, is_hex}
 use Rattle.call_text.proofs.Runs.{both, Stops, take_run, all_weaker}
 use Rattle.call_text.proofs.ValuesPrinted.{Prints}
 use Rattle.call_text.proofs.States.{Kind, Place, State, a_first, a_func, a_seg, a_code, a_field, an_operator, a_session, an_option, an_index, a_verb, a_part, a_count, at_first, at_func, behind_seg, at_code, between, at_field, behind_field, behind_operator, in_signs, at_value, in_text, at_quote, at_mark, hex_none, hex_odd, hex_even, behind_clause, at_session, at_option, at_index, at_verb, at_part, at_count, at_end, at, within, dead, over, fits, begins, bad, after, after_value, after_step, value_step, between_step, end_step, clause_step, enter, grow, stuck, gap_or, place_step, word_step, step, run, ends, verdict}
@@ -17,7 +19,7 @@ use Rattle.call_text.specs.declared.line.Command.{Command}
 use Rattle.call_text.specs.declared.line.Command.TheVariants.{Step}
 use Rattle.call_text.specs.Spelling.{IsGap, IsRoom, SpellsName}
 use Rattle.call_text.specs.Faults.{EndsWord}
-use Rattle.call_text.specs.Reading.{◌>>=◌, name_at, is_end, call_at, open_at, count_at, plain_command, or_form, command_at, reorg_at, form_at}
+use Rattle.call_text.specs.Reading.{name_at, is_end, call_at, open_at, count_at, plain_command, or_form, command_at, reorg_at, form_at}
 use Rattle.call_text.proofs.Stopping.{other_byte, stops_run, stops_room}
 use Rattle.call_text.proofs.Again.{name_again, past_gap}
 use Rattle.call_text.proofs.ClausesAgain.{name_some}

@@ -1,10 +1,10 @@
 -- The first fault of a line from the left: where the longest front ends that some form begins with, and what
 -- stands there.
+use Rattle.hal_base.specs.Bytes.{is_printable}
 use Rattle.std.specs.Prelude.{◌≡◌, ℕ, ◌<◌, ◌≤◌, Bool, true, false, not, ◌==◌, if◌then◌else◌, List, [], ◌∷◌, ◌++◌, length, codes}
 use Rattle.std.specs.List.{list_all}
 use Rattle.call_text.specs.declared.line.Line.{Line}
 use Rattle.call_text.specs.declared.line.Line.TheVariants as lines
-use Rattle.call_text.specs.Printing.{is_printable}
 use Rattle.call_text.specs.Words.{in_word, is_number, is_count}
 use Rattle.call_text.specs.Spelling.{IsGap, IsRoom, SpellsName, SpellsForm}
 

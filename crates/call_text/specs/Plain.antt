@@ -1,4 +1,5 @@
 -- A line as it is read again from its printed form: a hexadecimal value of printable bytes alone is a text.
+use Rattle.hal_base.specs.Bytes.{is_printable}
 use Rattle.std.specs.Prelude.{◌≡◌, false, if◌then◌else◌, map, Option, Some, None}
 use Rattle.std.specs.List.{list_all, AllByRecursion}
 use Rattle.call_text.specs.declared.line.Value.{Value}
@@ -8,7 +9,6 @@ use Rattle.call_text.specs.declared.line.Ssa.{Ssa}
 use Rattle.call_text.specs.declared.line.Call.{Call}
 use Rattle.call_text.specs.declared.line.Line.{Line}
 use Rattle.call_text.specs.declared.line.Line.TheVariants as lines
-use Rattle.call_text.specs.Printing.{is_printable}
 
 abbrev pub plain_value : Value → Value
 plain_value (Text bytes) = Text bytes

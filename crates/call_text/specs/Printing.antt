@@ -1,10 +1,7 @@
 -- How values are printed.
+use Rattle.hal_base.specs.Bytes.{is_printable}
 use Rattle.std.specs.Prelude.{ℕ, ◌+◌, ◌/◌, ◌%◌, ◌&&◌, Bool, nat_le, nat_lt, ◌==◌, if◌then◌else◌, List, [], ◌∷◌, ◌++◌}
 use Rattle.std.specs.List.{list_all, flat_map}
-
--- a byte that stands for itself in text: a blank to a tilde
-abbrev pub is_printable : ℕ → Bool
-is_printable b = nat_le 32 b && nat_le b 126
 
 -- a quote stands twice
 abbrev pub doubled : ℕ → List ℕ

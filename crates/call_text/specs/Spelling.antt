@@ -1,5 +1,7 @@
 -- The grammar: which texts spell a line. Lower-case letters outside quotes are as good as upper-case ones, and
 -- blanks stand where the forms have a gap (none or more) or room (one or more).
+use Rattle.hal_base.specs.Bytes.{is_printable}
+use Rattle.hal_base.specs.Numbers.{number_of}
 use Rattle.std.specs.Prelude.{◌≡◌, ℕ, ◌+◌, ◌*◌, ◌<◌, ◌≤◌, ◌||◌, Bool, true, false, ◌==◌, ◌⊎◌, List, [], ◌∷◌, ◌++◌, length, map, Option, Some, None, codes}
 use Rattle.std.specs.List.{list_all}
 use Rattle.hal_base.specs.Name.{is_name, upper}
@@ -13,9 +15,9 @@ use Rattle.call_text.specs.declared.line.Command.{Command}
 use Rattle.call_text.specs.declared.line.Command.TheVariants.{Start, Step, Pause, Resume, Finish, Query}
 use Rattle.call_text.specs.declared.line.Line.{Line}
 use Rattle.call_text.specs.declared.line.Line.TheVariants as lines
-use Rattle.call_text.specs.Printing.{is_printable, quoted}
+use Rattle.call_text.specs.Printing.{quoted}
 use Rattle.call_text.specs.Printed.{is_sign, command_word}
-use Rattle.call_text.specs.Words.{is_blank, is_letter, is_word, is_number, is_count, number_of, is_hex, hex_value, printed_operator, is_reserved, is_silent}
+use Rattle.call_text.specs.Words.{is_blank, is_letter, is_word, is_number, is_count, is_hex, hex_value, printed_operator, is_reserved, is_silent}
 
 abbrev pub IsGap : List ℕ → Type 0
 IsGap gap = list_all is_blank gap ≡ true

@@ -1,5 +1,6 @@
 -- Blanks, words, operators and digits.
-use Rattle.std.specs.Prelude.{ℕ, ◌+◌, ◌-◌, ◌*◌, ◌&&◌, ◌||◌, Bool, false, nat_le, nat_lt, ◌==◌, if◌then◌else◌, List, [], ◌∷◌, length, drop, fold, codes}
+use Rattle.hal_base.specs.Numbers.{number_of}
+use Rattle.std.specs.Prelude.{ℕ, ◌+◌, ◌-◌, ◌*◌, ◌&&◌, ◌||◌, Bool, false, nat_le, nat_lt, ◌==◌, if◌then◌else◌, List, [], ◌∷◌, length, drop, codes}
 use Rattle.std.specs.List.{list_all, prefix_len}
 use Rattle.std.specs.Str.{bytes_eq}
 use Rattle.hal_base.specs.Name.{is_name_byte, is_digit, upper}
@@ -26,9 +27,6 @@ abbrev pub is_word : List ℕ → Bool
 is_word word = nat_lt 0 (length word) && nat_le (length word) 8 && list_all is_letter_or_digit word
 
 -- the number that digits write
-abbrev pub number_of : List ℕ → ℕ
-number_of digits = fold (λ n digit. 10 * n + (digit - 48)) 0 digits
-
 -- 1 to 1,000 groups, in 1 to 4 digits
 abbrev pub is_count : List ℕ → Bool
 is_count digits = nat_le (length digits) 4 && nat_le 1 (number_of digits) && nat_le (number_of digits) 1000

@@ -1,5 +1,10 @@
 //! Script lines and reply lines as text: the lines that a script may have, read and printed, and the text of
 //! a reply.
+//!
+//! - `line`, `reply`: what a line says, and what a reply says;
+//! - `reading` over `words`, `read_values`, `read_ssas`: a line's text as a line, or the cause of its first fault;
+//! - `printing`, `replying` over `values`: lines and replies as text;
+//! - `fault`: why a line isn't read.
 #![tactic(auto)]
 
 mod fault;

@@ -6,9 +6,9 @@ ghost use Rattle.call_text.specs.Printed.{is_sign, operator_text, bytes_of, clau
 ghost use Rattle.call_text.specs.Plain.{plain_line, IsPlain};
 ghost use Rattle.call_text.specs.Spelling.{Spells};
 
-use crate::values::{put_number, put_value};
+use crate::values::put_value;
 use crate::{Call, Clause, Command, Line, Open, Ssa, Value};
-use hal_base::{Bytes, Memory, Name8};
+use hal_base::{Bytes, Memory, Name8, put_number};
 use std::alloc::Global;
 
 pub fn is_sign(byte: u8) -> bool

@@ -1,7 +1,7 @@
 // Lines, as they are read.
+ghost use Rattle.hal_base.specs.Bytes.{is_printable};
 ghost use Rattle.std.specs.Prelude.{◌≡◌, ℕ, List, IfOk, length};
 ghost use Rattle.std.specs.List.{list_all};
-ghost use Rattle.call_text.specs.Printing.{is_printable};
 ghost use Rattle.call_text.specs.Printed.{HasForm};
 ghost use Rattle.call_text.specs.Words.{past, in_word, is_reserved, is_silent};
 ghost use Rattle.call_text.specs.declared.line.Line.{Line};
@@ -12,10 +12,9 @@ ghost use Rattle.call_text.specs.Reading.{Gives, given_at, call_at, session_at, 
 use crate::fault::{Fault, ReadError};
 use crate::read_ssas::ssas_of;
 use crate::read_values::value_of;
-use crate::values::all_printable;
 use crate::words::{count_of, is_end, name_of, past_blanks, past_word, word_of};
 use crate::{Call, Command, Line, Open, Value};
-use hal_base::{Memory, Name8};
+use hal_base::{Memory, Name8, are_printable};
 use std::alloc::Global;
 
 /// A line's most bytes, without its end.
@@ -188,7 +187,7 @@ fn read(alloc: Global, line: &[u8]) -> Result<Line, Memory>
     if line.len() > LONGEST {
         return Ok(Line::Bad(1));
     }
-    if !all_printable(line) {
+    if !are_printable(line) {
         return Ok(Line::Bad(2));
     }
     match form_of(alloc, line) {

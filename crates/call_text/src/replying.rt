@@ -2,9 +2,9 @@
 ghost use Rattle.std.specs.Prelude.{◌≡◌, ◌++◌, ◌∷◌, OnOk, IfOk};
 ghost use Rattle.call_text.specs.Replying.{line_number, status_text, content_text, segment_text, state_text, cursor_text, partition_text, number_text, reply_text};
 
-use crate::values::{put_number, put_value};
+use crate::values::put_value;
 use crate::{PartOut, Reply, SegOut};
-use hal_base::{Bytes, Cursor, Memory};
+use hal_base::{Bytes, Cursor, Memory, put_number};
 use std::alloc::Global;
 
 fn put_line_number(

@@ -2,22 +2,10 @@
 ghost use Rattle.std.specs.Prelude.{◌≡◌, ◌<◌, ◌++◌, OnOk, IsTrue, ◌↔◌};
 ghost use Rattle.std.specs.List.{list_all, flat_map};
 ghost use Rattle.std.specs.Fmt.{decimal};
-ghost use Rattle.call_text.specs.Printing.{is_printable, doubled, quoted, hex_digit, hex_pair, in_hex, printed_value};
+ghost use Rattle.call_text.specs.Printing.{doubled, quoted, hex_digit, hex_pair, in_hex, printed_value};
 
-use hal_base::{Bytes, Memory};
+use hal_base::{Bytes, Memory, are_printable};
 use std::alloc::Global;
-
-pub fn is_printable(byte: u8) -> bool
-    ensures { result ≡ is_printable byte }
-{
-    matches!(byte, b' '..=b'~')
-}
-
-pub fn all_printable(bytes: &[u8]) -> bool
-    ensures { result ≡ list_all is_printable bytes.now }
-{
-    bytes.iter().all(|byte| is_printable(*byte))
-}
 
 fn hex_digit(n: u8) -> u8
     requires { n < 16 }
@@ -83,16 +71,9 @@ fn put_hex_pair(out: &mut Bytes, byte: u8) -> Result<(), Memory>
 pub fn put_value(out: &mut Bytes, bytes: &[u8]) -> Result<(), Memory>
     ensures { OnOk result (out.new ≡ out.old ++ printed_value bytes.now) }
 {
-    if all_printable(bytes) {
+    if are_printable(bytes) {
         put_quoted(out, bytes)
     } else {
         put_hex(out, bytes)
     }
-}
-
-pub fn put_number(alloc: Global, out: &mut Bytes, number: u32) -> Result<(), Memory>
-    ensures { OnOk result (out.new ≡ out.old ++ decimal number) }
-{
-    let digits = format!(in alloc; "{number}")?;
-    out.append(digits.as_bytes())
 }

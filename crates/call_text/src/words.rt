@@ -1,12 +1,13 @@
 // Blanks and words, as they are read.
+ghost use Rattle.hal_base.specs.Numbers.{number_of};
 ghost use Rattle.std.specs.Prelude.{◌≡◌, ◌≤◌, map, length, IfOk, IsTrue, if◌then◌else◌};
 ghost use Rattle.std.specs.List.{list_all, prefix_len, take_while};
 ghost use Rattle.hal_base.specs.Name.{upper, is_digit};
-ghost use Rattle.call_text.specs.Words.{is_blank, past, in_word, is_letter, is_letter_or_digit, is_word, number_of, is_number, is_count};
+ghost use Rattle.call_text.specs.Words.{is_blank, past, in_word, is_letter, is_letter_or_digit, is_word, is_number, is_count};
 ghost use Rattle.call_text.specs.Reading.{Gives, name_at, word_at, count_at, is_end, begins_blank, begins_word};
 
 use crate::fault::{Fault, ReadError};
-use hal_base::{Bytes, Memory, Name8, upper_case};
+use hal_base::{Bytes, Memory, Name8, are_digits, number_of, upper_case};
 use std::alloc::Global;
 
 fn is_blank(byte: u8) -> bool
@@ -140,35 +141,10 @@ pub fn word_of(alloc: Global, text: &[u8]) -> Result<(Bytes, &[u8]), ReadError>
     Ok((upper_bytes(alloc, word)?, rest))
 }
 
-fn is_digit(byte: u8) -> bool
-    ensures { result ≡ is_digit byte }
-{
-    matches!(byte, b'0'..=b'9')
-}
-
 fn is_number(word: &[u8]) -> bool
     ensures { result ≡ is_number word.now }
 {
-    !word.is_empty() && all_digits(word)
-}
-
-fn all_digits(word: &[u8]) -> bool
-    ensures { result ≡ list_all is_digit word.now }
-{
-    word.iter().all(|byte| is_digit(*byte))
-}
-
-/// The number that at most four digits write.
-fn number_of(digits: &[u8]) -> u16
-    requires short { length digits.now ≤ 4 }
-    requires digits { IsTrue (list_all is_digit digits.now) }
-    ensures { result ≡ number_of digits.now }
-{
-    let mut number = 0;
-    for digit in digits {
-        number = 10 * number + (*digit - b'0') as u16;
-    }
-    number
+    !word.is_empty() && are_digits(word)
 }
 
 fn count(digits: &[u8]) -> Option<u16>
@@ -180,7 +156,7 @@ fn count(digits: &[u8]) -> Option<u16>
     }
     let number = number_of(digits);
     if 1 <= number && number <= 1000 {
-        Some(number)
+        Some(number as u16)
     } else {
         None
     }

@@ -1,8 +1,15 @@
 -- What is kept of the last commit while a volume changes.
 use Rattle.std.proofs.Common.{◌≡◌, ◌∙◌, ℕ, Bool, false, List, reverse, Option, None, Some, Ok, Err, Result, refl, sym, ap, subst}
-use Rattle.std.specs.Prelude.{IsSome, OnOk, is_err}
+use Rattle.std.specs.Prelude.{IsSome, IsErrOf, OnOk, is_err}
 use Rattle.std.proofs.lemmas.Bool.{true≢false}
 use Rattle.hal_base.specs.declared.place.PartState.{PartState}
+use Rattle.hal_base.specs.Fault.{Fails}
+use Rattle.hal_base.specs.Outcome.{page_fault}
+use Rattle.hal_base.specs.declared.outcome.PageFault.{PageFault}
+use Rattle.hal_base.specs.declared.outcome.PageFault.TheVariants as page
+use Rattle.hal_base.specs.declared.outcome.StageFault.{StageFault}
+use Rattle.hal_base.specs.declared.outcome.StageFault.TheVariants.{Failed, Memory}
+use Rattle.hal_base.proofs.ShelfLemmas.{fails_as}
 use Rattle.data_set_pairs.specs.declared.place.PagePlace.{PagePlace}
 use Rattle.data_set_pairs.specs.declared.table.Table.{Table}
 use Rattle.data_set_pairs.specs.Table.{IsTable}
@@ -21,6 +28,23 @@ pages_kept (Some t) a b there = refl
 pub free_kept : (kept : Option Table) (a b : Table) → IsSome kept → last_free kept a ≡ last_free kept b
 free_kept None a b there = absurd (true≢false (sym there))
 free_kept (Some t) a b there = refl
+
+-- a stage that was done, and one that wasn't, as the fault of a page
+pub fails_done : {T U E F : Type 0} {a b : ℕ} {m : Bool} (r : Result T E) (e : E) (u : U) (f : F) → ((x : E) → r ≡ Err x → ⊥) → Fails (IsErrOf r e) a b m → Fails (IsErrOf (Ok u) f) a b m
+fails_done {T} {U} {E} {F} r e u f never fails = fails_as fails (λ is. absurd (never e is)) (λ is. absurd (wrong is))
+  where
+    wrong : Ok u ≡ Err f → ⊥
+    wrong is = cc
+
+pub fails_page : {T U : Type 0} {a b : ℕ} {m : Bool} (r : Result T StageFault) (fault : StageFault) (now : PageFault) → r ≡ Err fault → now ≡ page_fault fault → Fails (IsErrOf r Failed) a b m → Fails (IsErrOf {T = U} (Err now) page.Failed) a b m
+fails_page r Failed now is by fails = fails_as fails (λ _. ap Err by) (λ _. is)
+fails_page {T} {U} {a} {b} {m} r Memory now is by fails = fails_as fails (λ at. absurd (other is at)) (λ at. absurd (page_other by at))
+  where
+    other : r ≡ Err Memory → r ≡ Err Failed → ⊥
+    other is at = cc
+
+    page_other : now ≡ page.Memory → IsErrOf {T = U} (Err now) page.Failed → ⊥
+    page_other by at = cc
 
 -- the same table and blocks, said of equal lists
 pub table_moved : (control number : ℕ) (pages more : List PagePlace) (free left : List ℕ) → more ≡ pages → left ≡ free → IsTable control number pages (reverse free) → IsTable control number more (reverse left)

@@ -9,9 +9,10 @@ pub mod Loading
 pub mod VolumeSteps
 pub mod Heads
 pub mod Staging
-pub mod Staged
+pub mod FreeSteps
 pub mod Growing
 pub mod Keeping
 pub mod RowSet
 pub mod Standing
 pub mod SameNumber
+pub mod Staged

@@ -6,6 +6,7 @@ use Rattle.hal_base.specs.declared.place.PartState.{PartState}
 use Rattle.hal_schema.specs.declared.schema.Schema.{Schema}
 use Rattle.volume_image.specs.Control.{control_count}
 use Rattle.volume_image.specs.Pages.{KeepsRule1, KeepsRule2}
+use Rattle.hal_base.specs.StoreCalls.{AreBlocks}
 use Rattle.data_set_pairs.specs.declared.place.PagePlace.{PagePlace}
 use Rattle.data_set_pairs.specs.Reading.{HasFirstStates}
 use Rattle.data_set_pairs.specs.Image.{are_known, AreNumbered, BreaksRule, TableStands}
@@ -61,11 +62,11 @@ breaks_two schema indexes control states (Some list) now of same first broken =
       two = λ keeps. two.2 (numbered_back schema indexes control states list of keeps);
     }) here
 
-pub is_laid_out : (schema : Schema) (indexes control number : ℕ) (states : List PartState) (pages : List PagePlace) (free : List ℕ) (told now : Option (List (List ℕ))) → AreOf schema indexes control → now ≡ told → IfSome told (AreRead schema states) → IfSome now (λ list. length list ≡ number) → IfSome now (All (λ block. length block ≡ 4096)) → IfSome now (TableStands indexes states control pages free) → IfSome told (IsLaidOut (length schema.indexes) (control_count schema) number states pages free)
-is_laid_out schema indexes control number states pages free None now of same first many whole table = tt
-is_laid_out schema indexes control number states pages free (Some list) now of same first many whole table = record {
-  many = subst (λ (o : Option (List (List ℕ))). IfSome o (λ list. length list ≡ number)) same many;
-  whole = subst (λ (o : Option (List (List ℕ))). IfSome o (All (λ block. length block ≡ 4096))) same whole;
+pub is_laid_out : (schema : Schema) (indexes control number : ℕ) (states : List PartState) (pages : List PagePlace) (free : List ℕ) (told now : Option (List (List ℕ))) → AreOf schema indexes control → now ≡ told → IfSome told (AreRead schema states) → AreBlocks number told → IfSome now (TableStands indexes states control pages free) → IfSome told (IsLaidOut (length schema.indexes) (control_count schema) number states pages free)
+is_laid_out schema indexes control number states pages free None now of same first shaped table = tt
+is_laid_out schema indexes control number states pages free (Some list) now of same first shaped table = record {
+  many = shaped.0;
+  whole = shaped.1;
   rows = first.is;
   rest = λ place le lt. first.rest place (omega (arith, le, first.many)) lt;
   table = subst (λ (n : ℕ). TableStands (length schema.indexes) states n pages free list) of.control_is (subst (λ (n : ℕ). TableStands n states control pages free list) of.indexes_are (subst (λ (o : Option (List (List ℕ))). IfSome o (TableStands indexes states control pages free)) same table));

@@ -10,6 +10,7 @@ use Rattle.hal_base.specs.declared.place.PartState.{PartState}
 use Rattle.volume_image.specs.Header.{kind_in, set_in, is_free, is_live, is_live_set, says_no_more}
 use Rattle.data_set_pairs.specs.declared.place.PagePlace.{PagePlace}
 use Rattle.data_set_pairs.specs.Table.{HasPlace}
+use Rattle.hal_base.specs.StoreCalls.{AreBlocks}
 use Rattle.data_set_pairs.specs.Image.{is_taken, page_at, taken_pages, free_blocks, are_known, IsScanned, HasScanned, HasUnknown}
 
 pub known_live : (free live : Bool) → live ≡ true → (free || live) ≡ true
@@ -74,11 +75,11 @@ unknown_further indexes states blocks zero unknown = unknown
 unknown_further indexes states [] (suc n) unknown = unknown
 unknown_further indexes states (b ∷ bs) (suc n) unknown = ap (λ (t : Bool). (is_free states b || is_live indexes states b) && t) (unknown_further indexes states bs n unknown) ∙ and_false (is_free states b || is_live indexes states b)
 
-pub scan_none : (indexes : ℕ) (states : List PartState) (n number : ℕ) (told : Option (List (List ℕ))) (pages : List PagePlace) (free : List ℕ) → n ≡ number → IfSome told (λ list. length list ≡ n) → pages ≡ [] → free ≡ [] → HasScanned indexes states n number told pages free
+pub scan_none : (indexes : ℕ) (states : List PartState) (n number : ℕ) (told : Option (List (List ℕ))) (pages : List PagePlace) (free : List ℕ) → n ≡ number → AreBlocks number told → pages ≡ [] → free ≡ [] → HasScanned indexes states n number told pages free
 scan_none indexes states n number told pages free all many no_pages no_free = record {
   seen = [];
   many = omega (arith, all);
-  told = λ list is. drop_all n list (omega (arith, subst (λ (o : Option (List (List ℕ))). IfSome o (λ list. length list ≡ n)) is many));
+  told = λ list is. drop_all n list (omega (arith, all, (subst (AreBlocks number) is many).0));
   scanned = subst (λ (l : List ℕ). IsScanned indexes states n [] pages l) (sym no_free) (subst (λ (l : List PagePlace). IsScanned indexes states n [] l []) (sym no_pages) (scanned_none indexes states n));
 }
 

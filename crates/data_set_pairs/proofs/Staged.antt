@@ -1,7 +1,9 @@
 -- What a fetch and a stage of a page's block come to for the volume.
-use Rattle.std.proofs.Common.{◌≡◌, ◌∙◌, inl, inr, ℕ, ◌-◌, ◌*◌, ◌≤◌, List, [], length, take, drop, get_or, Option, None, Some, Ok, Err, Result, slice_get, slice_set, refl, sym, ap, subst, arith}
+use Rattle.std.proofs.Common.{◌≡◌, ◌∙◌, ◌==◌, Bool, true, false, inl, inr, ℕ, ◌-◌, ◌*◌, ◌≤◌, List, [], length, take, drop, get_or, Option, None, Some, Ok, Err, Result, slice_get, slice_set, refl, sym, ap, subst, arith}
 use Rattle.std.specs.Prelude.{◌⊎◌, IfSome, OnOk, OnErr}
 use Rattle.std.specs.Option.{option_map}
+use Rattle.std.specs.List.{list_any}
+use Rattle.std.proofs.lemmas.Bool.{true≢false}
 use Rattle.std.proofs.lemmas.List.{length-set}
 use Rattle.std.proofs.lemmas.List.Elements.{All-set}
 use Rattle.std.proofs.lemmas.Option.{none-some, same_Some, slice_get-map, slice_get_within, get_or_from_slice_get}
@@ -14,12 +16,21 @@ use Rattle.data_set_pairs.specs.Image.{taken_pages, free_blocks, SamePages}
 use Rattle.data_set_pairs.specs.Volume.{IsLaidOut}
 use Rattle.data_set_pairs.specs.Shelf.{blocks_at, SameControl}
 use Rattle.data_set_pairs.specs.ShelfLaw.{places_within}
+use Rattle.volume_image.specs.Header.{is_free}
+use Rattle.data_set_pairs.proofs.FreeSteps.{free_is}
+use Rattle.data_set_pairs.proofs.ScanSteps.{taken_not_free}
 use Rattle.data_set_pairs.proofs.Heads.{place_page}
 use Rattle.data_set_pairs.proofs.Staging.{alike, data_at, data_set, free_same, put_at, rows_stay, take_stays, taken_same, untouched}
 
 pub done_or_not : {T E P Q : Type 0} (r : Result T E) → OnOk r P → OnErr r Q → P ⊎ Q
 done_or_not (Ok x) done kept = inl done
 done_or_not (Err e) done kept = inr kept
+
+-- blocks that aren't told aren't told after a stage
+pub staged_untold : {T E X Y : Type 0} (f : X → X) (read : X → Y) (old new : Option X) (r : Result T E) → OnOk r (new ≡ option_map f old) → OnErr r (new ≡ old) → option_map read old ≡ None → option_map read new ≡ None
+staged_untold f read None new (Ok x) done kept none = ap (option_map read) done
+staged_untold f read (Some l) new (Ok x) done kept none = absurd (none-some (read l) (sym none))
+staged_untold f read old new (Err e) done kept none = ap (option_map read) kept ∙ none
 
 -- the number of a page's block
 pub place_number : (control number : ℕ) (pages : List PagePlace) (free : List ℕ) (set : SetId) (n k : ℕ) → IsTable control number pages free → slice_get (places_of set pages) n ≡ Some k → IsBetween control number k
@@ -94,3 +105,19 @@ others_staged indexes control number states pages free (Some list) now set other
 pub control_staged : (control k : ℕ) (told now : Option (List (List ℕ))) (x : List ℕ) → control ≤ k → now ≡ option_map (λ list. slice_set list k x) told → SameControl control told now
 control_staged control k None now x le staged = ap (option_map (take control)) staged
 control_staged control k (Some list) now x le staged = ap (option_map (take control)) staged ∙ ap Some (take_stays list control k x le)
+
+-- the block of a page isn't free
+pub not_free : (indexes control number : ℕ) (states : List PartState) (pages : List PagePlace) (free : List ℕ) (told : Option (List (List ℕ))) (set : SetId) (n k : ℕ) (x : List ℕ) → Staging indexes control number states pages free told set n k x → (list : List (List ℕ)) → told ≡ Some list → list_any (λ m. m == k) free ≡ false
+not_free indexes control number states pages free told set n k x s list is = by (list_any (λ m. m == k) free) refl
+  where
+    laid : IsLaidOut indexes control number states pages free list
+    laid = s.laid list is
+
+    taken : is_free states (get_or list k []) ≡ false
+    taken = taken_not_free indexes states (get_or list k []) (place_page indexes states control pages free list set n k laid.table s.table.run s.at).taken
+
+    by : (b : Bool) → list_any (λ m. m == k) free ≡ b → list_any (λ m. m == k) free ≡ false
+    by false is = is
+    by true is =
+        let one = free_is states control k (drop control list) (subst (λ (l : List ℕ). list_any (λ m. m == k) l ≡ true) laid.table.left is) in
+        absurd (true≢false (sym one.1 ∙ ap (is_free states) (data_at list control k one.0) ∙ taken))

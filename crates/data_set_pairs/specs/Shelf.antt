@@ -1,5 +1,6 @@
 -- A volume as a shelf of pages.
-use Rattle.std.specs.Prelude.{◌≡◌, ℕ, Bool, ◌&&◌, ◌==◌, nat_lt, not, if◌then◌else◌, List, [], map, take, slice_index_or, Option}
+use Rattle.std.specs.Prelude.{◌≡◌, ℕ, Bool, ◌&&◌, ◌==◌, nat_lt, not, if◌then◌else◌, List, [], map, take, slice_index_or, Option, IsTrue}
+use Rattle.std.specs.List.{list_any}
 use Rattle.std.specs.Option.{option_map}
 use Rattle.hal_base.specs.declared.pages.SetId.{SetId}
 use Rattle.hal_base.specs.declared.place.PartState.{PartState}
@@ -31,6 +32,11 @@ pub record Standing : Type 0 where
 -- the control blocks are as they were
 abbrev pub SameControl : ℕ → Option (List (List ℕ)) → Option (List (List ℕ)) → Type 0
 SameControl control old new = option_map (take control) new ≡ option_map (take control) old
+
+-- each block that is free now was free before, and holds what it held
+pub record FreeStays (before now : List ℕ) (old new : Option (List (List ℕ))) : Type 0 where
+  pub fewer : (block : ℕ) → IsTrue (list_any (λ n. n == block) now) → IsTrue (list_any (λ n. n == block) before)
+  pub same : (block : ℕ) → IsTrue (list_any (λ n. n == block) now) → option_map (λ list. slice_index_or list block []) new ≡ option_map (λ list. slice_index_or list block []) old
 
 abbrev pub standing : ℕ → ℕ → List PartState → List PartState → List PagePlace → List ℕ → Standing
 standing indexes control states last_states last_pages last_free = record {

@@ -3,7 +3,7 @@ ghost use Rattle.std.specs.Prelude.{◌≡◌, ◌+◌, ◌*◌, ◌/◌, ◌%�
 ghost use Rattle.std.specs.Option.{option_map};
 ghost use Rattle.hal_base.specs.Fault.{HasCauseFor, Rose};
 ghost use Rattle.volume_image.specs.Control.{control_row, cursor_bytes};
-ghost use Rattle.data_set_pairs.specs.Stays.{Stays};
+ghost use Rattle.data_set_pairs.specs.Stays.{Looks};
 ghost use Rattle.data_set_pairs.specs.Table.{IsTable};
 ghost use Rattle.data_set_pairs.specs.Image.{are_known, AreNumbered, TableStands};
 ghost use Rattle.data_set_pairs.specs.Row.{with_row, KeepsNumber};
@@ -78,15 +78,14 @@ fn table_under<B: Blocks>(
     changed: &Vec<PartState>,
     state: &PartState,
 ) -> Result<Option<Table>, VolWhy>
-    requires live { IsTrue (B.live blocks.old) }
-    requires number { control ≤ B.number blocks.old }
+    requires live { IsTrue (B.seen blocks.old).live }
+    requires number { control ≤ (B.seen blocks.old).number }
     ensures same { IfOk result (λ table. IfNone table ((state.now.part ≡ old.now.part) × (state.now.number ≡ old.now.number))) }
-    ensures table { IfOk result (λ table. IfSome table (λ t. IsTable control (B.number blocks.old) t.pages.items (reverse t.free.items))) }
-    ensures stands { IfOk result (λ table. IfSome table (λ t. IfSome (B.list blocks.old) (TableStands indexes changed.now.items control t.pages.items (reverse t.free.items)))) }
-    ensures list { B.list blocks.new ≡ B.list blocks.old }
-    ensures stays { Stays B.number B.committed B.said B.moment B.left_at B.disk_faults B.say_faults B.room blocks.old blocks.new }
-    ensures failed { IsErrOf result VolWhy.Failed → Rose (B.disk_faults blocks.old) (B.disk_faults blocks.new) }
-    ensures live { (result ≡ Err VolWhy.Failed → ⊥) → IsTrue (B.live blocks.new) }
+    ensures table { IfOk result (λ table. IfSome table (λ t. IsTable control (B.seen blocks.old).number t.pages.items (reverse t.free.items))) }
+    ensures stands { IfOk result (λ table. IfSome table (λ t. IfSome (B.seen blocks.old).list (TableStands indexes changed.now.items control t.pages.items (reverse t.free.items)))) }
+    ensures looks { Looks (B.steady blocks.old blocks.new) (B.seen blocks.old) (B.seen blocks.new) }
+    ensures failed { IsErrOf result VolWhy.Failed → Rose (B.seen blocks.old).disk_faults (B.seen blocks.new).disk_faults }
+    ensures live { (result ≡ Err VolWhy.Failed → ⊥) → IsTrue (B.seen blocks.new).live }
 {
     if keeps_number(old, state) {
         return Ok(None);
@@ -107,20 +106,19 @@ pub(crate) fn plan<B: Blocks>(
     place: u16,
     state: &PartState,
 ) -> Result<Change, VolWhy>
-    requires live { IsTrue (B.live blocks.old) }
-    requires number { control ≤ B.number blocks.old }
+    requires live { IsTrue (B.seen blocks.old).live }
+    requires number { control ≤ (B.seen blocks.old).number }
     requires place { place < length states.now.items }
     requires control { place < 32 * control }
     requires short { length (cursor_bytes state.now.cursor) ≤ 120 }
     ensures states { IfOk result (λ change. change.states.items ≡ slice_set states.now.items place state.now) }
     ensures same { IfOk result (λ change. IfNone change.table (KeepsNumber states.now.items place state.now)) }
-    ensures table { IfOk result (λ change. IfSome change.table (λ t. IsTable control (B.number blocks.old) t.pages.items (reverse t.free.items))) }
-    ensures stands { IfOk result (λ change. IfSome change.table (λ t. IfSome (B.list blocks.old) (TableStands indexes change.states.items control t.pages.items (reverse t.free.items)))) }
-    ensures block { IfOk result (λ change. IfSome (B.list blocks.old) (λ list. change.block ≡ with_row (place % 32) (control_row state.now) (slice_index_or list (place / 32) []))) }
-    ensures list { B.list blocks.new ≡ B.list blocks.old }
-    ensures stays { Stays B.number B.committed B.said B.moment B.left_at B.disk_faults B.say_faults B.room blocks.old blocks.new }
-    ensures failed { IsErrOf result VolWhy.Failed → Rose (B.disk_faults blocks.old) (B.disk_faults blocks.new) }
-    ensures live { (result ≡ Err VolWhy.Failed → ⊥) → IsTrue (B.live blocks.new) }
+    ensures table { IfOk result (λ change. IfSome change.table (λ t. IsTable control (B.seen blocks.old).number t.pages.items (reverse t.free.items))) }
+    ensures stands { IfOk result (λ change. IfSome change.table (λ t. IfSome (B.seen blocks.old).list (TableStands indexes change.states.items control t.pages.items (reverse t.free.items)))) }
+    ensures block { IfOk result (λ change. IfSome (B.seen blocks.old).list (λ list. change.block ≡ with_row (place % 32) (control_row state.now) (slice_index_or list (place / 32) []))) }
+    ensures looks { Looks (B.steady blocks.old blocks.new) (B.seen blocks.old) (B.seen blocks.new) }
+    ensures failed { IsErrOf result VolWhy.Failed → Rose (B.seen blocks.old).disk_faults (B.seen blocks.new).disk_faults }
+    ensures live { (result ≡ Err VolWhy.Failed → ⊥) → IsTrue (B.seen blocks.new).live }
 {
     let alloc = *states.allocator();
     let changed = with_state(alloc, states, place, state)?;

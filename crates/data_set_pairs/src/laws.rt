@@ -15,11 +15,11 @@ impl<B: Blocks> Volume<B> {
     /// has the head of that page. While the heads of the blocks that aren't free say no more than a head may, each data block
     /// is free or live, the live blocks of each data set are numbered from 0 on, and the data set's pages are all of them.
     pub fn is_its_blocks(&self)
-        ensures rows { IfSome (B.list self.now.blocks) (λ list. (place : ℕ) (s : PartState) → slice_get self.now.states.items place ≡ Some s → row_in list place ≡ control_row s) }
-        ensures rest { IfSome (B.list self.now.blocks) (λ list. (place : ℕ) → length self.now.states.items ≤ place → place < 32 * self.now.control → row_in list place ≡ replicate 128 0) }
-        ensures pages { IfSome (B.list self.now.blocks) (λ list. (set : SetId) (n block : ℕ) → slice_get (places_of set self.now.table.pages.items) n ≡ Some block → IsPage self.now.indexes self.now.states.items set n (slice_index_or list block [])) }
-        ensures known { IfSome (B.list self.now.blocks) (λ list. IsTrue (are_quiet self.now.states.items (drop self.now.control list)) → IsTrue (are_known self.now.indexes self.now.states.items (drop self.now.control list))) }
-        ensures numbered { IfSome (B.list self.now.blocks) (λ list. IsTrue (are_known self.now.indexes self.now.states.items (drop self.now.control list)) → AreNumbered self.now.indexes self.now.states.items (drop self.now.control list)) }
-        ensures counted { IfSome (B.list self.now.blocks) (λ list. IsTrue (are_known self.now.indexes self.now.states.items (drop self.now.control list)) → (set : SetId) → length (set_blocks self.now.indexes self.now.states.items set (drop self.now.control list)) ≡ length (places_of set self.now.table.pages.items)) }
+        ensures rows { IfSome (B.seen self.now.blocks).list (λ list. (place : ℕ) (s : PartState) → slice_get self.now.states.items place ≡ Some s → row_in list place ≡ control_row s) }
+        ensures rest { IfSome (B.seen self.now.blocks).list (λ list. (place : ℕ) → length self.now.states.items ≤ place → place < 32 * self.now.control → row_in list place ≡ replicate 128 0) }
+        ensures pages { IfSome (B.seen self.now.blocks).list (λ list. (set : SetId) (n block : ℕ) → slice_get (places_of set self.now.table.pages.items) n ≡ Some block → IsPage self.now.indexes self.now.states.items set n (slice_index_or list block [])) }
+        ensures known { IfSome (B.seen self.now.blocks).list (λ list. IsTrue (are_quiet self.now.states.items (drop self.now.control list)) → IsTrue (are_known self.now.indexes self.now.states.items (drop self.now.control list))) }
+        ensures numbered { IfSome (B.seen self.now.blocks).list (λ list. IsTrue (are_known self.now.indexes self.now.states.items (drop self.now.control list)) → AreNumbered self.now.indexes self.now.states.items (drop self.now.control list)) }
+        ensures counted { IfSome (B.seen self.now.blocks).list (λ list. IsTrue (are_known self.now.indexes self.now.states.items (drop self.now.control list)) → (set : SetId) → length (set_blocks self.now.indexes self.now.states.items set (drop self.now.control list)) ≡ length (places_of set self.now.table.pages.items)) }
     {}
 }

@@ -1,7 +1,7 @@
 // The data blocks, read into a table of pages.
 ghost use Rattle.std.specs.Prelude.{◌≡◌, ◌+◌, ◌≤◌, ℕ, List, ◌∷◌, ◌⊎◌, length, drop, All, reverse, IfOk, IfSome, OnOk, IsErrOf, IsTrue, MatchBool};
 ghost use Rattle.hal_base.specs.Fault.{Rose};
-ghost use Rattle.data_set_pairs.specs.Stays.{Stays};
+ghost use Rattle.data_set_pairs.specs.Stays.{Looks};
 ghost use Rattle.data_set_pairs.specs.Table.{IsTable};
 ghost use Rattle.data_set_pairs.specs.Image.{are_known, AreNumbered, BreaksRule, HasScanned, HasUnknown, IsScanned, TableStands};
 
@@ -48,16 +48,13 @@ pub(crate) fn scan<B: Blocks>(
     indexes: u16,
     states: &[PartState],
 ) -> Result<Table, VolWhy>
-    requires live { IsTrue (B.live blocks.old) }
-    requires number { control ≤ B.number blocks.old }
-    ensures many { OnOk result (IfSome (B.list blocks.old) (λ list. length list ≡ B.number blocks.old)) }
-    ensures whole { OnOk result (IfSome (B.list blocks.old) (All (λ block. length block ≡ BLOCK))) }
-    ensures table { IfOk result (λ table. HasScanned indexes states.now control (B.number blocks.old) (B.list blocks.old) table.pages.items table.free.items) }
-    ensures broken { (rule : ℕ) → result ≡ Err (VolWhy.Damaged rule) → (rule ≡ 1) × IfSome (B.list blocks.old) (λ list. HasUnknown indexes states.now (drop control list)) }
-    ensures list { B.list blocks.new ≡ B.list blocks.old }
-    ensures stays { Stays B.number B.committed B.said B.moment B.left_at B.disk_faults B.say_faults B.room blocks.old blocks.new }
-    ensures failed { IsErrOf result VolWhy.Failed → Rose (B.disk_faults blocks.old) (B.disk_faults blocks.new) }
-    ensures live { (result ≡ Err VolWhy.Failed → ⊥) → IsTrue (B.live blocks.new) }
+    requires live { IsTrue (B.seen blocks.old).live }
+    requires number { control ≤ (B.seen blocks.old).number }
+    ensures table { IfOk result (λ table. HasScanned indexes states.now control (B.seen blocks.old).number (B.seen blocks.old).list table.pages.items table.free.items) }
+    ensures broken { (rule : ℕ) → result ≡ Err (VolWhy.Damaged rule) → (rule ≡ 1) × IfSome (B.seen blocks.old).list (λ list. HasUnknown indexes states.now (drop control list)) }
+    ensures looks { Looks (B.steady blocks.old blocks.new) (B.seen blocks.old) (B.seen blocks.new) }
+    ensures failed { IsErrOf result VolWhy.Failed → Rose (B.seen blocks.old).disk_faults (B.seen blocks.new).disk_faults }
+    ensures live { (result ≡ Err VolWhy.Failed → ⊥) → IsTrue (B.seen blocks.new).live }
 {
     let mut table = Table::new(alloc);
     let mut block = [0; BLOCK];
@@ -80,20 +77,17 @@ pub(crate) fn read_table<B: Blocks>(
     indexes: u16,
     states: &[PartState],
 ) -> Result<Table, VolWhy>
-    requires live { IsTrue (B.live blocks.old) }
-    requires number { control ≤ B.number blocks.old }
-    ensures many { OnOk result (IfSome (B.list blocks.old) (λ list. length list ≡ B.number blocks.old)) }
-    ensures whole { OnOk result (IfSome (B.list blocks.old) (All (λ block. length block ≡ BLOCK))) }
-    ensures table { IfOk result (λ table. IsTable control (B.number blocks.old) table.pages.items (reverse table.free.items)) }
-    ensures stands { IfOk result (λ table. IfSome (B.list blocks.old) (TableStands indexes states.now control table.pages.items (reverse table.free.items))) }
-    ensures known { OnOk result (IfSome (B.list blocks.old) (λ list. IsTrue (are_known indexes states.now (drop control list)))) }
-    ensures numbered { OnOk result (IfSome (B.list blocks.old) (λ list. AreNumbered indexes states.now (drop control list))) }
-    ensures broken { (rule : ℕ) → result ≡ Err (VolWhy.Damaged rule) → IfSome (B.list blocks.old) (λ list. BreaksRule indexes states.now (drop control list) rule) }
+    requires live { IsTrue (B.seen blocks.old).live }
+    requires number { control ≤ (B.seen blocks.old).number }
+    ensures table { IfOk result (λ table. IsTable control (B.seen blocks.old).number table.pages.items (reverse table.free.items)) }
+    ensures stands { IfOk result (λ table. IfSome (B.seen blocks.old).list (TableStands indexes states.now control table.pages.items (reverse table.free.items))) }
+    ensures known { OnOk result (IfSome (B.seen blocks.old).list (λ list. IsTrue (are_known indexes states.now (drop control list)))) }
+    ensures numbered { OnOk result (IfSome (B.seen blocks.old).list (λ list. AreNumbered indexes states.now (drop control list))) }
+    ensures broken { (rule : ℕ) → result ≡ Err (VolWhy.Damaged rule) → IfSome (B.seen blocks.old).list (λ list. BreaksRule indexes states.now (drop control list) rule) }
     ensures rule { (rule : ℕ) → result ≡ Err (VolWhy.Damaged rule) → (rule ≡ 1) ⊎ (rule ≡ 2) }
-    ensures list { B.list blocks.new ≡ B.list blocks.old }
-    ensures stays { Stays B.number B.committed B.said B.moment B.left_at B.disk_faults B.say_faults B.room blocks.old blocks.new }
-    ensures failed { IsErrOf result VolWhy.Failed → Rose (B.disk_faults blocks.old) (B.disk_faults blocks.new) }
-    ensures live { (result ≡ Err VolWhy.Failed → ⊥) → IsTrue (B.live blocks.new) }
+    ensures looks { Looks (B.steady blocks.old blocks.new) (B.seen blocks.old) (B.seen blocks.new) }
+    ensures failed { IsErrOf result VolWhy.Failed → Rose (B.seen blocks.old).disk_faults (B.seen blocks.new).disk_faults }
+    ensures live { (result ≡ Err VolWhy.Failed → ⊥) → IsTrue (B.seen blocks.new).live }
 {
     let mut table = scan(alloc, blocks, control, indexes, states)?;
     if settle(&mut table.pages) {

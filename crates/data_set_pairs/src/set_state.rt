@@ -20,20 +20,20 @@ impl<B: Blocks> Volume<B> {
     /// become free. Only where the number is another one are the heads of the data blocks read for this. Over blocks that
     /// tell nothing, states under which what is read isn't so are answered as want of memory.
     pub fn set_state(&mut self, place: u16, state: &PartState) -> Result<(), StageFault>
-        requires live { IsTrue (B.live self.old.blocks) }
+        requires live { IsTrue (B.seen self.old.blocks).live }
         requires place { place < length self.old.states.items }
         requires short { length (cursor_bytes state.now.cursor) ≤ 120 }
-        requires known { IfSome (B.list self.old.blocks) (λ list. IsTrue (are_known self.old.indexes (slice_set self.old.states.items place state.now) (drop self.old.control list))) }
-        requires numbered { IfSome (B.list self.old.blocks) (λ list. AreNumbered self.old.indexes (slice_set self.old.states.items place state.now) (drop self.old.control list)) }
-        ensures row { OnOk result (B.list self.new.blocks ≡ option_map (λ list. slice_set list (place / 32) (with_row (place % 32) (control_row state.now) (slice_index_or list (place / 32) []))) (B.list self.old.blocks)) }
+        requires known { IfSome (B.seen self.old.blocks).list (λ list. IsTrue (are_known self.old.indexes (slice_set self.old.states.items place state.now) (drop self.old.control list))) }
+        requires numbered { IfSome (B.seen self.old.blocks).list (λ list. AreNumbered self.old.indexes (slice_set self.old.states.items place state.now) (drop self.old.control list)) }
+        ensures row { OnOk result ((B.seen self.new.blocks).list ≡ option_map (λ list. slice_set list (place / 32) (with_row (place % 32) (control_row state.now) (slice_index_or list (place / 32) []))) (B.seen self.old.blocks).list) }
         ensures states { OnOk result (self.new.states.items ≡ slice_set self.old.states.items place state.now) }
         ensures of { (self.new.control ≡ self.old.control) × (self.new.indexes ≡ self.old.indexes) }
-        ensures unchanged { OnErr result (B.list self.new.blocks ≡ B.list self.old.blocks) }
+        ensures unchanged { OnErr result ((B.seen self.new.blocks).list ≡ (B.seen self.old.blocks).list) }
         ensures held { OnErr result (held self.new.control self.new.indexes self.new.states self.new.table ≡ held self.old.control self.old.indexes self.old.states self.old.table) }
         ensures kept { last_held self.new.control self.new.indexes self.new.kept_states self.new.states self.new.kept_table self.new.table ≡ last_held self.old.control self.old.indexes self.old.kept_states self.old.states self.old.kept_table self.old.table }
-        ensures stays { Stays B.number B.committed B.said B.moment B.left_at B.disk_faults B.say_faults B.room self.old.blocks self.new.blocks }
-        ensures cause { HasCauseFor (B.disk_faults self.old.blocks) (B.disk_faults self.new.blocks) result StageFault.Failed }
-        ensures live { (result ≡ Err StageFault.Failed → ⊥) → IsTrue (B.live self.new.blocks) }
+        ensures stays { Stays (B.steady self.old.blocks self.new.blocks) (B.seen self.old.blocks) (B.seen self.new.blocks) }
+        ensures cause { HasCauseFor (B.seen self.old.blocks).disk_faults (B.seen self.new.blocks).disk_faults result StageFault.Failed }
+        ensures live { (result ≡ Err StageFault.Failed → ⊥) → IsTrue (B.seen self.new.blocks).live }
     {
         let number = u32::from(place / 32);
         let planned = plan(

@@ -1,12 +1,12 @@
 // A volume as a shelf: pages by data set.
-ghost use Rattle.std.specs.Prelude.{◌≡◌, ◌↔◌, reverse};
+ghost use Rattle.std.specs.Prelude.{◌≡◌, reverse};
 ghost use Rattle.std.specs.Option.{option_map};
 ghost use Rattle.std.proofs.Common.{◌∙◌, ap, refl};
 ghost use Rattle.data_set_pairs.specs.Stays.{Stays};
 ghost use Rattle.data_set_pairs.specs.Table.{places_of};
 ghost use Rattle.data_set_pairs.specs.Kept.{last_states, last_pages, last_free};
-ghost use Rattle.data_set_pairs.specs.Shelf.{blocks_at, kind_fits, takes, standing, Standing, SameControl};
-ghost use Rattle.data_set_pairs.specs.ShelfLaw.{control_then, few_pages, free_rise, pages_fit};
+ghost use Rattle.data_set_pairs.specs.Shelf.{blocks_at, kind_fits, takes, standing, Standing, SameControl, FreeStays};
+ghost use Rattle.data_set_pairs.specs.ShelfLaw.{control_then, few_pages, free_stays, free_then, free_rise, pages_fit, untold_alike};
 ghost use Rattle.data_set_pairs.specs.StaysLaw.{stays_none, stays_then};
 
 use crate::Volume;
@@ -14,16 +14,6 @@ use crate::place::{PagePlace, block_at, count_of};
 use crate::table::make_room;
 use hal_base::{BLOCK, Blocks, Failed, Live, PageFault, SetId, Shelf, StageFault, empty_page};
 use volume_image::{has_cells, is_left, is_live_set};
-
-fn page_fault(fault: StageFault) -> PageFault
-    ensures failed { (result ≡ PageFault.Failed) ↔ (fault ≡ StageFault.Failed) }
-    ensures no_room { result ≡ PageFault.NoRoom → ⊥ }
-{
-    match fault {
-        StageFault::Failed => PageFault::Failed,
-        StageFault::Memory => PageFault::Memory,
-    }
-}
 
 impl<B: Blocks> Volume<B> {
     /// Whether `grow` may add a page of this kind, 1 with cells or 2 with rows, to a data set.
@@ -47,7 +37,7 @@ fn kind_fits(set: SetId, kind: u8) -> bool
 }
 
 impl<B: Blocks> Live for Volume<B> {
-    ghost live = { λ v. B.live v.blocks };
+    ghost live = { λ v. (B.seen v.blocks).live };
 
     fn is_live(&self) -> bool {
         self.blocks.is_live()
@@ -55,31 +45,23 @@ impl<B: Blocks> Live for Volume<B> {
 }
 
 impl<B: Blocks> Shelf for Volume<B> {
-    ghost pages_in = { λ v set. option_map (blocks_at (places_of set v.table.pages.items)) (B.list v.blocks) };
+    ghost seen = { λ v. record { pages = λ set. option_map (blocks_at (places_of set v.table.pages.items)) (B.seen v.blocks).list; places = λ set. places_of set v.table.pages.items; free = reverse v.table.free.items; takes = takes v.indexes v.states.items; disk_faults = (B.seen v.blocks).disk_faults; fetches = (B.seen v.blocks).fetches; live = (B.seen v.blocks).live } };
 
-    ghost places = { λ v set. places_of set v.table.pages.items };
+    ghost steady = { λ a b. Stays (B.steady a.blocks b.blocks) (B.seen a.blocks) (B.seen b.blocks) × (standing b.indexes b.control b.states.items (last_states b.kept_states b.states) (last_pages b.kept_table b.table) (last_free b.kept_table b.table) ≡ standing a.indexes a.control a.states.items (last_states a.kept_states a.states) (last_pages a.kept_table a.table) (last_free a.kept_table a.table)) × SameControl a.control (B.seen a.blocks).list (B.seen b.blocks).list × FreeStays (reverse a.table.free.items) (reverse b.table.free.items) (B.seen a.blocks).list (B.seen b.blocks).list };
 
-    ghost free = { λ v. reverse v.table.free.items };
+    ghost alive = { λ v. refl };
 
-    ghost takes = { λ v set kind. takes v.indexes v.states.items set kind };
+    ghost pages_are = { λ v set. pages_fit v.indexes v.control (B.seen v.blocks).number v.states.items v.table.pages.items (reverse v.table.free.items) set (B.seen v.blocks).list v.in_table v.laid };
 
-    ghost disk_faults = { λ v. B.disk_faults v.blocks };
+    ghost told_alike = { λ v set other none. untold_alike (blocks_at (places_of set v.table.pages.items)) (blocks_at (places_of other v.table.pages.items)) (B.seen v.blocks).list none };
 
-    ghost fetches = { λ v. B.fetches v.blocks };
+    ghost few = { λ v set. few_pages v.control (B.seen v.blocks).number v.table.pages.items (reverse v.table.free.items) set v.in_table v.near };
 
-    ghost steady = { λ a b. Stays B.number B.committed B.said B.moment B.left_at B.disk_faults B.say_faults B.room a.blocks b.blocks × (standing b.indexes b.control b.states.items (last_states b.kept_states b.states) (last_pages b.kept_table b.table) (last_free b.kept_table b.table) ≡ standing a.indexes a.control a.states.items (last_states a.kept_states a.states) (last_pages a.kept_table a.table) (last_free a.kept_table a.table)) × SameControl a.control (B.list a.blocks) (B.list b.blocks) };
+    ghost free_rises = { λ v. free_rise v.control (B.seen v.blocks).number v.table.pages.items (reverse v.table.free.items) v.in_table };
 
-    ghost pages_are = { λ v set pages is. pages_fit v.indexes v.control (B.number v.blocks) v.states.items v.table.pages.items (reverse v.table.free.items) set (B.list v.blocks) pages v.in_table v.laid is };
+    ghost steady_none = { λ v. (stays_none (B.seen v.blocks) (B.steady_none v.blocks), refl, refl, free_stays (reverse v.table.free.items) (reverse v.table.free.items) (B.seen v.blocks).list (B.seen v.blocks).list refl refl) };
 
-    ghost few = { λ v set. few_pages v.control (B.number v.blocks) v.table.pages.items (reverse v.table.free.items) set v.in_table v.near };
-
-    ghost free_rises = { λ v. free_rise v.control (B.number v.blocks) v.table.pages.items (reverse v.table.free.items) v.in_table };
-
-    ghost steady_none = { λ v. (stays_none B.number B.committed B.said B.moment B.left_at B.disk_faults B.say_faults B.room v.blocks, refl, refl) };
-
-    ghost steady_then = { λ a b c first second. (stays_then first.0 second.0, second.1 ∙ first.1, control_then a.control b.control (B.list a.blocks) (B.list b.blocks) (B.list c.blocks) (ap (λ (s : Standing). s.control) first.1) first.2 second.2) };
-
-    ghost steady_takes = { λ a b set kind is. ap (λ (s : Standing). takes s.indexes s.states set kind) is.1 };
+    ghost steady_then = { λ a b c first second. (stays_then first.0 second.0 (B.steady_then a.blocks b.blocks c.blocks), second.1 ∙ first.1, control_then a.control b.control (B.seen a.blocks).list (B.seen b.blocks).list (B.seen c.blocks).list (ap (λ (s : Standing). s.control) first.1) first.2 second.2, free_then (reverse a.table.free.items) (reverse b.table.free.items) (reverse c.table.free.items) (B.seen a.blocks).list (B.seen b.blocks).list (B.seen c.blocks).list first.3 second.3) };
 
     fn pages(&self, set: SetId) -> u32 {
         count_of(&self.table.pages, set)
@@ -104,7 +86,7 @@ impl<B: Blocks> Shelf for Volume<B> {
         }
         let page = count_of(&self.table.pages, set) as u16;
         if let Err(fault) = self.blocks.stage(block, &empty_page(set, kind, page)) {
-            return Err(page_fault(fault));
+            return Err(PageFault::from(fault));
         }
         self.table.add(PagePlace { set, page, block });
         Ok(page)

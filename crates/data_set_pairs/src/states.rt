@@ -3,7 +3,7 @@ ghost use Rattle.std.specs.Prelude.{◌≡◌, ◌+◌, ◌*◌, ◌<◌, ◌≤
 ghost use Rattle.hal_base.specs.Fault.{Rose};
 ghost use Rattle.volume_image.specs.Control.{control_count, row_in};
 ghost use Rattle.data_set_pairs.specs.Reading.{HasFirstStates, HasNoStates};
-ghost use Rattle.data_set_pairs.specs.Stays.{Stays};
+ghost use Rattle.data_set_pairs.specs.Stays.{Looks};
 
 use crate::VolWhy;
 use crate::look::look;
@@ -86,15 +86,14 @@ pub(crate) fn read_states<B: Blocks>(
     blocks: &mut B,
     schema: &Schema,
 ) -> Result<Vec<PartState>, VolWhy>
-    requires live { IsTrue (B.live blocks.old) }
-    requires number { control_count schema.now ≤ B.number blocks.old }
+    requires live { IsTrue (B.seen blocks.old).live }
+    requires number { control_count schema.now ≤ (B.seen blocks.old).number }
     ensures many { IfOk result (λ states. length states.items ≡ length schema.now.parts) }
-    ensures states { IfOk result (λ states. IfSome (B.list blocks.old) (λ list. HasFirstStates schema.now list (32 * control_count schema.now) states.items)) }
-    ensures broken { (rule : ℕ) → result ≡ Err (VolWhy.Damaged rule) → (rule ≡ 1) × IfSome (B.list blocks.old) (HasNoStates schema.now) }
-    ensures list { B.list blocks.new ≡ B.list blocks.old }
-    ensures stays { Stays B.number B.committed B.said B.moment B.left_at B.disk_faults B.say_faults B.room blocks.old blocks.new }
-    ensures failed { IsErrOf result VolWhy.Failed → Rose (B.disk_faults blocks.old) (B.disk_faults blocks.new) }
-    ensures live { (result ≡ Err VolWhy.Failed → ⊥) → IsTrue (B.live blocks.new) }
+    ensures states { IfOk result (λ states. IfSome (B.seen blocks.old).list (λ list. HasFirstStates schema.now list (32 * control_count schema.now) states.items)) }
+    ensures broken { (rule : ℕ) → result ≡ Err (VolWhy.Damaged rule) → (rule ≡ 1) × IfSome (B.seen blocks.old).list (HasNoStates schema.now) }
+    ensures looks { Looks (B.steady blocks.old blocks.new) (B.seen blocks.old) (B.seen blocks.new) }
+    ensures failed { IsErrOf result VolWhy.Failed → Rose (B.seen blocks.old).disk_faults (B.seen blocks.new).disk_faults }
+    ensures live { (result ≡ Err VolWhy.Failed → ⊥) → IsTrue (B.seen blocks.new).live }
 {
     let mut states = Vec::new(alloc);
     let mut block = [0; BLOCK];

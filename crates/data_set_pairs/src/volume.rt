@@ -4,7 +4,7 @@ ghost use Rattle.hal_base.specs.Fault.{Rose};
 ghost use Rattle.volume_image.specs.Control.{control_count};
 ghost use Rattle.volume_image.specs.Header.{is_free};
 ghost use Rattle.volume_image.specs.Pages.{KeepsRule1, KeepsRule2};
-ghost use Rattle.data_set_pairs.specs.Stays.{Stays};
+ghost use Rattle.data_set_pairs.specs.Stays.{Looks};
 ghost use Rattle.data_set_pairs.specs.Table.{IsTable, places_of};
 ghost use Rattle.data_set_pairs.specs.Volume.{BreaksOne, BreaksTwo, IsLaidOut};
 ghost use Rattle.data_set_pairs.specs.Kept.{held, last_held, last_states, last_pages, last_free};
@@ -30,12 +30,12 @@ pub struct Volume<B: Blocks> {
     pub(crate) kept_states: Option<Vec<PartState>>,
     pub(crate) kept_table: Option<Table>,
     ghost control_is: { control ≡ (length states.items + 31) / 32 },
-    ghost near: { B.number blocks ≤ control + 65536 },
-    ghost in_table: { IsTable control (B.number blocks) table.pages.items (reverse table.free.items) },
-    ghost laid: { (list : List (List ℕ)) → B.list blocks ≡ Some list → IsLaidOut indexes control (B.number blocks) states.items table.pages.items (reverse table.free.items) list },
+    ghost near: { (B.seen blocks).number ≤ control + 65536 },
+    ghost in_table: { IsTable control (B.seen blocks).number table.pages.items (reverse table.free.items) },
+    ghost laid: { (list : List (List ℕ)) → (B.seen blocks).list ≡ Some list → IsLaidOut indexes control (B.seen blocks).number states.items table.pages.items (reverse table.free.items) list },
     ghost as_many: { length (last_states kept_states states) ≡ length states.items },
-    ghost kept_in_table: { IsTable control (B.number blocks) (last_pages kept_table table) (reverse (last_free kept_table table)) },
-    ghost kept_laid: { IsTrue (B.live blocks) → (list : List (List ℕ)) → B.committed blocks ≡ Some list → IsLaidOut indexes control (B.number blocks) (last_states kept_states states) (last_pages kept_table table) (reverse (last_free kept_table table)) list },
+    ghost kept_in_table: { IsTable control (B.seen blocks).number (last_pages kept_table table) (reverse (last_free kept_table table)) },
+    ghost kept_laid: { IsTrue (B.seen blocks).live → (list : List (List ℕ)) → (B.seen blocks).committed ≡ Some list → IsLaidOut indexes control (B.seen blocks).number (last_states kept_states states) (last_pages kept_table table) (reverse (last_free kept_table table)) list },
 }
 
 impl<B: Blocks> Volume<B> {
@@ -43,18 +43,17 @@ impl<B: Blocks> Volume<B> {
     /// back with a refusal: `Damaged(1)` where the control rows or the heads break soundness rule 1, `Damaged(2)` where
     /// with these in order the page numbers of a data set break rule 2.
     pub fn read(alloc: Global, mut blocks: B, schema: &Schema) -> Result<Volume<B>, VolFault<B>>
-        requires live { IsTrue (B.live blocks) }
-        requires number { B.number blocks ≡ control_count schema.now + schema.now.blocks }
-        requires kept { B.committed blocks ≡ B.list blocks }
-        ensures one { IfOk result (λ volume. IfSome (B.list blocks) (λ list. KeepsRule1 schema.now list volume.states.items)) }
-        ensures two { IfOk result (λ volume. IfSome (B.list blocks) (λ list. KeepsRule2 schema.now list volume.states.items)) }
+        requires live { IsTrue (B.seen blocks).live }
+        requires number { (B.seen blocks).number ≡ control_count schema.now + schema.now.blocks }
+        requires clean { IsTrue (B.seen blocks).clean }
+        ensures one { IfOk result (λ volume. IfSome (B.seen blocks).list (λ list. KeepsRule1 schema.now list volume.states.items)) }
+        ensures two { IfOk result (λ volume. IfSome (B.seen blocks).list (λ list. KeepsRule2 schema.now list volume.states.items)) }
         ensures rule { IfErr result (λ fault. (rule : ℕ) → fault.why ≡ VolWhy.Damaged rule → (rule ≡ 1) ⊎ (rule ≡ 2)) }
-        ensures breaks_one { IfErr result (λ fault. fault.why ≡ VolWhy.Damaged 1 → IfSome (B.list blocks) (BreaksOne schema.now)) }
-        ensures breaks_two { IfErr result (λ fault. fault.why ≡ VolWhy.Damaged 2 → IfSome (B.list blocks) (BreaksTwo schema.now)) }
-        ensures failed { IfErr result (λ fault. fault.why ≡ VolWhy.Failed → Rose (B.disk_faults blocks) (B.disk_faults fault.blocks)) }
-        ensures list { MatchResult result (λ volume. B.list volume.blocks ≡ B.list blocks) (λ fault. B.list fault.blocks ≡ B.list blocks) }
-        ensures stays { MatchResult result (λ volume. Stays B.number B.committed B.said B.moment B.left_at B.disk_faults B.say_faults B.room blocks volume.blocks) (λ fault. Stays B.number B.committed B.said B.moment B.left_at B.disk_faults B.say_faults B.room blocks fault.blocks) }
-        ensures live { MatchResult result (λ volume. IsTrue (B.live volume.blocks)) (λ fault. (fault.why ≡ VolWhy.Failed → ⊥) → IsTrue (B.live fault.blocks)) }
+        ensures breaks_one { IfErr result (λ fault. fault.why ≡ VolWhy.Damaged 1 → IfSome (B.seen blocks).list (BreaksOne schema.now)) }
+        ensures breaks_two { IfErr result (λ fault. fault.why ≡ VolWhy.Damaged 2 → IfSome (B.seen blocks).list (BreaksTwo schema.now)) }
+        ensures failed { IfErr result (λ fault. fault.why ≡ VolWhy.Failed → Rose (B.seen blocks).disk_faults (B.seen fault.blocks).disk_faults) }
+        ensures looks { MatchResult result (λ volume. Looks (B.steady blocks volume.blocks) (B.seen blocks) (B.seen volume.blocks)) (λ fault. Looks (B.steady blocks fault.blocks) (B.seen blocks) (B.seen fault.blocks)) }
+        ensures live { MatchResult result (λ volume. IsTrue (B.seen volume.blocks).live) (λ fault. (fault.why ≡ VolWhy.Failed → ⊥) → IsTrue (B.seen fault.blocks).live) }
         ensures last { IfOk result (λ volume. last_held volume.control volume.indexes volume.kept_states volume.states volume.kept_table volume.table ≡ held volume.control volume.indexes volume.states volume.table) }
         ensures of { IfOk result (λ volume. (volume.indexes ≡ length schema.now.indexes) × (volume.control ≡ control_count schema.now) × (length volume.states.items ≡ length schema.now.parts)) }
     {
@@ -82,7 +81,7 @@ impl<B: Blocks> Volume<B> {
     /// How many data blocks are free.
     pub fn free_count(&self) -> u32
         ensures count { result ≡ length self.now.table.free.items }
-        ensures told { IfSome (B.list self.now.blocks) (λ list. result ≡ length (filter (is_free self.now.states.items) (drop self.now.control list))) }
+        ensures told { IfSome (B.seen self.now.blocks).list (λ list. result ≡ length (filter (is_free self.now.states.items) (drop self.now.control list))) }
     {
         self.table.free.len() as u32
     }

@@ -1,5 +1,6 @@
 -- What holds of each definition that was read: it has a segment type, its names are plain, and the text behind it begins
 -- within the text.
+use Rattle.hal_base.specs.Reading.{◌>>=◌}
 use Rattle.std.proofs.Common.{◌≡◌, ℕ, ◌+◌, ◌-◌, ◌<◌, ◌≤◌, Bool, true, false, cond, ◌&&◌, List, [], ◌∷◌, ◌++◌, length, map, Option, Some, None, Result, Ok, Err, IfOk, IsTrue, refl, subst, ◌∙◌, length-append, arith, codes}
 use Rattle.std.specs.List.{list_all}
 use Rattle.std.specs.Option.{option_map, option_map_or}
@@ -23,7 +24,6 @@ use Rattle.dbd_reader.specs.declared.statement.Statement.{Statement}
 use Rattle.dbd_reader.specs.declared.fault.TextFault.{TextFault}
 use Rattle.dbd_reader.specs.declared.draft.Draft.{Draft}
 use Rattle.dbd_reader.specs.declared.draft.Draft.TheVariants as drafts
-use Rattle.dbd_reader.specs.Reading.{◌>>=◌}
 use Rattle.dbd_reader.specs.Words.{word_of, operands_of}
 use Rattle.dbd_reader.specs.Operands.{operands_in, value_of, inside, pieces}
 use Rattle.dbd_reader.specs.Lines.{behind_lines}

@@ -1,4 +1,5 @@
 -- The raw definition of a list of statements, or the first line that breaks a rule.
+use Rattle.hal_base.specs.Reading.{◌>>=◌}
 use Rattle.std.specs.Prelude.{◌≡◌, ℕ, ◌+◌, ◌-◌, ◌==◌, Bool, true, false, if◌then◌else◌, List, [], ◌∷◌, ◌++◌, length, Option, Some, None, Result, Ok, Err}
 use Rattle.std.specs.Str.Lines.{lines}
 use Rattle.hal_schema.specs.declared.raw.RawField.{RawField}
@@ -18,7 +19,6 @@ use Rattle.dbd_reader.specs.Words.{word_of, operands_of}
 use Rattle.dbd_reader.specs.Operands.{operands_in}
 use Rattle.dbd_reader.specs.Statements.{statements}
 use Rattle.dbd_reader.specs.Lines.{behind_lines}
-use Rattle.dbd_reader.specs.Reading.{◌>>=◌}
 use Rattle.dbd_reader.specs.Verdicts.{checked}
 use Rattle.dbd_reader.specs.Meanings.{dbd_of, segm_of, field_of, lchild_of, xdfld_of}
 

@@ -1,11 +1,9 @@
 -- Lines, and the columns of them that are read.
+use Rattle.hal_base.specs.Bytes.{is_printable}
 use Rattle.std.specs.Prelude.{◌≡◌, ◌≤◌, ◌-◌, ℕ, zero, suc, ◌&&◌, ◌||◌, Bool, true, false, not, nat_le, ◌==◌, List, [], ◌∷◌, take}
 use Rattle.std.specs.List.{list_all, slice_get, after_first}
 use Rattle.std.specs.Option.{option_map_or}
 use Rattle.dbd_reader.specs.Words.{is_blank}
-
-abbrev pub is_printable : ℕ → Bool
-is_printable b = nat_le 32 b && nat_le b 126
 
 abbrev pub begins_with : ℕ → List ℕ → Bool
 begins_with byte [] = false

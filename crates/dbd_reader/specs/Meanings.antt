@@ -1,4 +1,5 @@
 -- What each statement says: 16 is the rule of a needed operand that is absent.
+use Rattle.hal_base.specs.Reading.{◌>>=◌}
 use Rattle.std.specs.Prelude.{ℕ, Bool, true, false, List, [], Option, Some, None, Result, Ok, Err, codes}
 use Rattle.std.specs.Option.{option_map, option_map_or}
 use Rattle.hal_schema.specs.declared.raw.RawField.{RawField}
@@ -10,7 +11,6 @@ use Rattle.dbd_reader.specs.declared.operand.Operand.{Operand}
 use Rattle.dbd_reader.specs.declared.value.RmName.{RmName}
 use Rattle.dbd_reader.specs.declared.value.Child.{Child}
 use Rattle.dbd_reader.specs.Operands.{value_of}
-use Rattle.dbd_reader.specs.Reading.{◌>>=◌}
 use Rattle.dbd_reader.specs.Values.{name_value, access_value, rmname_value, parent_value, bytes_value, rules_value, letter_value, keyed_value, number_value, child_value, index_value, search_value, fields_value}
 use Rattle.dbd_reader.specs.Verdicts.{checked}
 

@@ -3,11 +3,6 @@ use Rattle.std.specs.Prelude.{◌≡◌, ℕ, Result, Ok, Err}
 use Rattle.dbd_reader.specs.declared.fault.ReadError.{ReadError}
 use Rattle.dbd_reader.specs.declared.fault.ReadError.TheVariants as errors
 
-infixl 10 ◌>>=◌
-abbrev pub ◌>>=◌ : {A B : Type 0} → Result A ℕ → (A → Result B ℕ) → Result B ℕ
-(Ok x) >>= f = f x
-(Err rule) >>= f = Err rule
-
 -- What a function returned, seen by view, is what reading gives, unless memory ran out.
 abbrev pub Fails : {Y : Type 0} → ReadError → Result Y ℕ → Type 0
 Fails errors.Memory read = Unit {0}

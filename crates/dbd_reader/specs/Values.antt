@@ -1,5 +1,7 @@
 -- What the values of operands say: 17 is the rule of a value that isn't readable, 18 that of a thing left out by name.
-use Rattle.std.specs.Prelude.{ℕ, ◌+◌, ◌-◌, ◌*◌, ◌^◌, ◌&&◌, ◌||◌, Bool, true, false, not, nat_le, nat_lt, ◌==◌, if◌then◌else◌, List, [], ◌∷◌, length, map, drop, fold, Option, Some, None, is_some, Result, Ok, Err, codes}
+use Rattle.hal_base.specs.Numbers.{number_of}
+use Rattle.hal_base.specs.Reading.{◌>>=◌}
+use Rattle.std.specs.Prelude.{ℕ, ◌+◌, ◌-◌, ◌*◌, ◌^◌, ◌&&◌, ◌||◌, Bool, true, false, not, nat_le, nat_lt, ◌==◌, if◌then◌else◌, List, [], ◌∷◌, length, map, drop, Option, Some, None, is_some, Result, Ok, Err, codes}
 use Rattle.std.specs.List.{list_all, list_any}
 use Rattle.std.specs.Str.{bytes_eq}
 use Rattle.hal_base.specs.Name.{is_name, is_name_byte, is_portion_name, is_field_name, is_digit, upper}
@@ -7,7 +9,6 @@ use Rattle.dbd_reader.specs.declared.value.RmName.{RmName}
 use Rattle.dbd_reader.specs.declared.value.KeyedName.{KeyedName}
 use Rattle.dbd_reader.specs.declared.value.Child.{Child}
 use Rattle.dbd_reader.specs.Operands.{inside, pieces, parts}
-use Rattle.dbd_reader.specs.Reading.{◌>>=◌}
 
 unfoldable pub name_value : List ℕ → Result (List ℕ) ℕ
 name_value value = if is_name (map upper value) then Ok (map upper value) else Err 17
@@ -19,10 +20,6 @@ is_system_name _ = false
 
 unfoldable pub field_value : List ℕ → Result (List ℕ) ℕ
 field_value value = if is_field_name (map upper value) then Ok (map upper value) else if is_system_name (map upper value) then Err 18 else Err 17
-
--- the number that digits write
-abbrev pub number_of : List ℕ → ℕ
-number_of digits = fold (λ n digit. 10 * n + (digit - 48)) 0 digits
 
 abbrev pub is_number : List ℕ → Bool
 is_number value = nat_lt 0 (length value) && list_all is_digit value && nat_lt (number_of value) 4294967296

@@ -1,5 +1,6 @@
 -- The operands that a statement takes, and the rule that one of them breaks: a thing left out by name comes
 -- before an operand that isn't taken or stands twice, and this before a value that isn't readable.
+use Rattle.hal_base.specs.Reading.{◌>>=◌}
 use Rattle.std.specs.Prelude.{ℕ, ◌==◌, ◌||◌, Bool, true, false, if◌then◌else◌, List, length, Option, Some, None, Result, Ok, Err, codes}
 use Rattle.std.specs.List.{list_any}
 use Rattle.std.specs.Option.{option_map_or}
@@ -8,7 +9,6 @@ use Rattle.dbd_reader.specs.declared.word.Word.{Word}
 use Rattle.dbd_reader.specs.declared.word.Word.TheVariants as words
 use Rattle.dbd_reader.specs.declared.operand.Operand.{Operand}
 use Rattle.dbd_reader.specs.Operands.{has_twins}
-use Rattle.dbd_reader.specs.Reading.{◌>>=◌}
 use Rattle.dbd_reader.specs.Values.{name_value, access_value, rmname_value, parent_value, bytes_value, rules_value, letter_value, keyed_value, number_value, child_value, index_value, search_value, fields_value}
 
 abbrev pub is_left_out : List ℕ → Bool

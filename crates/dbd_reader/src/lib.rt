@@ -1,4 +1,11 @@
 //! Database definitions as text: DBD source, read into a raw definition.
+//!
+//! - `reading`: the whole text, or the first line that breaks a rule;
+//! - `lines`, `word`, `statement`: lines, words of a statement, and statements with what goes on in further lines;
+//! - `operand`, `value`, `segm_value`, `field_value`: operands, and what their values say;
+//! - `verdict`: which operands a statement takes, and the rules that they break;
+//! - `meaning`, `draft`: what each statement says, and the statements in their order;
+//! - `fault`: why a text isn't read.
 #![tactic(auto)]
 
 mod draft;

@@ -3,7 +3,9 @@ ghost use Rattle.std.specs.Prelude.{◌≡◌, ◌<◌, ◌≤◌, ◌∷◌, �
 ghost use Rattle.std.specs.List.{list_all, after_first, position_or_len};
 ghost use Rattle.std.specs.Str.Lines.{lines, strip_carriage_return};
 ghost use Rattle.dbd_reader.specs.Words.{is_blank};
-ghost use Rattle.dbd_reader.specs.Lines.{is_printable, begins_with, is_comment, is_marked, is_readable};
+ghost use Rattle.dbd_reader.specs.Lines.{begins_with, is_comment, is_marked, is_readable};
+
+use hal_base::are_printable;
 
 /// The first line, without its end, and what stands behind it.
 #[tactic(auto, using(crate::proofs::FirstLine::line_first, crate::proofs::FirstLine::line_last, crate::proofs::FirstLine::behind_last))]
@@ -52,12 +54,6 @@ fn is_all_blank(text: &[u8]) -> bool
     text.iter().all(|byte| *byte == b' ')
 }
 
-fn is_all_printable(text: &[u8]) -> bool
-    ensures { result ≡ list_all is_printable text.now }
-{
-    text.iter().all(|byte| matches!(byte, b' '..=b'~'))
-}
-
 pub fn is_comment(line: &[u8]) -> bool
     ensures { result ≡ is_comment line.now }
 {
@@ -74,5 +70,5 @@ pub fn is_marked(line: &[u8]) -> bool
 pub fn is_readable(line: &[u8]) -> bool
     ensures { result ≡ is_readable line.now }
 {
-    is_all_printable(columns(line, 72))
+    are_printable(columns(line, 72))
 }

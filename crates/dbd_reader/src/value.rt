@@ -1,14 +1,15 @@
 // Values of operands.
+ghost use Rattle.hal_base.specs.Numbers.{number_of};
 ghost use Rattle.std.specs.Prelude.{◌≡◌, ◌<◌, ◌≤◌, ◌^◌, map, drop, min, length, IsTrue, true, None, Some, option_map, if◌then◌else◌};
 ghost use Rattle.std.specs.List.{list_all};
 ghost use Rattle.hal_base.specs.Name.{is_name, is_name_byte, is_field_name, is_digit, upper};
 ghost use Rattle.dbd_reader.specs.Operands.{inside, parts};
 ghost use Rattle.dbd_reader.specs.Reading.{Gives};
-ghost use Rattle.dbd_reader.specs.Values.{name_value, is_system_name, field_value, number_of, is_number, number_value, method_of, access_of, access_value, is_optional_number, first_number, rmname_of, rmname_value, in_list};
+ghost use Rattle.dbd_reader.specs.Values.{name_value, is_system_name, field_value, is_number, number_value, method_of, access_of, access_value, is_optional_number, first_number, rmname_of, rmname_value, in_list};
 
 use crate::fault::ReadError;
 use crate::operand::{inside, parts, pieces};
-use hal_base::{Bytes, List, Name8, upper_case};
+use hal_base::{Bytes, List, Name8, are_digits, number_of, upper_case};
 use std::alloc::Global;
 
 /// The name of a module, and the counts of anchors and of blocks behind it.
@@ -93,29 +94,11 @@ pub fn field_value(value: &[u8]) -> Result<Name8, ReadError>
     }
 }
 
-fn all_digits(value: &[u8]) -> bool
-    ensures { result ≡ list_all is_digit value.now }
-{
-    value.iter().all(|byte| matches!(byte, b'0'..=b'9'))
-}
-
-/// The number that digits write; one that has more than 32 bits as the least such number.
-fn number_of(digits: &[u8]) -> u64
-    requires { IsTrue (list_all is_digit digits.now) }
-    ensures { result ≡ min (number_of digits.now) 4294967296 }
-{
-    let mut number: u64 = 0;
-    for digit in digits {
-        number = (10 * number + (*digit - b'0') as u64).min(4_294_967_296);
-    }
-    number
-}
-
 /// The number that a value writes.
 fn number_in(value: &[u8]) -> Option<u32>
     ensures { result ≡ (if is_number value.now then Some (number_of value.now) else None) }
 {
-    if value.is_empty() || !all_digits(value) {
+    if value.is_empty() || !are_digits(value) {
         return None;
     }
     let number = number_of(value);

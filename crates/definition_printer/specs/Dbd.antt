@@ -7,7 +7,7 @@ use Rattle.hal_schema.specs.declared.schema.SegType.{SegType}
 use Rattle.hal_schema.specs.declared.schema.IndexDef.{IndexDef}
 use Rattle.hal_schema.specs.declared.schema.Schema.{Schema}
 use Rattle.hal_schema.specs.SegType.{type_of}
-use Rattle.hal_schema.specs.Lawful.{is_key_portion}
+use Rattle.hal_schema.specs.Lawful.{is_key_field}
 use Rattle.definition_printer.specs.Wrapped.{wrapped}
 
 abbrev pub method : Bool → List ℕ
@@ -48,17 +48,13 @@ kind false = codes ",SEQ,M)"
 unfoldable pub sequence_name : KeyField → List ℕ → List ℕ
 sequence_name key name = codes "(" ++ name ++ kind key.unique
 
--- a field at the place of the sequence field, and no portion of the concatenated key
-abbrev pub is_at_key : KeyField → Field → Bool
-is_at_key key f = f.start == key.start && f.bytes == key.bytes && not (is_key_portion f.name)
-
 abbrev pub plain_field : Field → List ℕ
 plain_field f = wrapped (field_statement f.name f)
 
 -- the first field at the place of the sequence field is that
 abbrev pub keyed_fields : KeyField → List Field → List ℕ
 keyed_fields key [] = []
-keyed_fields key (f ∷ more) = if is_at_key key f then wrapped (field_statement (sequence_name key f.name) f) ++ flat_map plain_field more else plain_field f ++ keyed_fields key more
+keyed_fields key (f ∷ more) = if is_key_field key f then wrapped (field_statement (sequence_name key f.name) f) ++ flat_map plain_field more else plain_field f ++ keyed_fields key more
 
 abbrev pub fields_text : Option KeyField → List Field → List ℕ
 fields_text None fields = flat_map plain_field fields

@@ -3,10 +3,9 @@ ghost use Rattle.std.specs.Prelude.{◌≡◌, ◌++◌, true, IfOk, OnOk};
 ghost use Rattle.definition_printer.specs.Wrapped.{wrapped};
 ghost use Rattle.definition_printer.specs.Dbd.{method, randomizer, dbd_statement, types_text, end_text, dbd_text};
 
-use crate::number::put_number;
 use crate::segment::put_type;
 use crate::wrap::put_wrapped;
-use hal_base::{Bytes, Memory, Name8};
+use hal_base::{Bytes, Memory, Name8, put_number};
 use hal_schema::Schema;
 use std::alloc::Global;
 

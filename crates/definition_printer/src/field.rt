@@ -1,12 +1,11 @@
 // FIELD statements.
 ghost use Rattle.std.specs.Prelude.{◌≡◌, ◌++◌, IfOk, OnOk, flat_map};
-ghost use Rattle.hal_schema.specs.Lawful.{is_key_portion};
+ghost use Rattle.hal_schema.specs.Lawful.{is_key_field, is_key_portion};
 ghost use Rattle.definition_printer.specs.Wrapped.{wrapped};
-ghost use Rattle.definition_printer.specs.Dbd.{field_statement, kind, sequence_name, is_at_key, plain_field, keyed_fields, fields_text};
+ghost use Rattle.definition_printer.specs.Dbd.{field_statement, kind, sequence_name, plain_field, keyed_fields, fields_text};
 
-use crate::number::put_number;
 use crate::wrap::put_wrapped;
-use hal_base::{Bytes, Memory, Name8};
+use hal_base::{Bytes, Memory, Name8, put_number};
 use hal_schema::{Field, KeyField};
 use std::alloc::Global;
 
@@ -16,8 +15,8 @@ fn is_key_portion(name: Name8) -> bool
     matches!(name.as_slice(), [b'/', ..])
 }
 
-fn is_at_key(key: KeyField, f: &Field) -> bool
-    ensures { result ≡ is_at_key key f.now }
+fn is_key_field(key: KeyField, f: &Field) -> bool
+    ensures { result ≡ is_key_field key f.now }
 {
     f.start == key.start && f.bytes == key.bytes && !is_key_portion(f.name)
 }
@@ -87,7 +86,7 @@ fn put_keyed_fields(
 {
     let mut left = fields;
     'fields: while let [f, behind @ ..] = left {
-        if is_at_key(key, f) {
+        if is_key_field(key, f) {
             put_sequence_field(alloc, out, key, f)?;
             return put_plain_fields(alloc, out, behind);
         }

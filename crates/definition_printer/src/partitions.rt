@@ -3,8 +3,7 @@ ghost use Rattle.std.specs.Prelude.{◌≡◌, ◌++◌, IfOk, OnOk, flat_map};
 ghost use Rattle.std.specs.List.{list_all};
 ghost use Rattle.definition_printer.specs.Partitions.{is_plain, high_text, text_line, number_line, table_line, name_lines, space_lines, part_text, partitions_text};
 
-use crate::number::put_number;
-use hal_base::{Bytes, Memory};
+use hal_base::{Bytes, Memory, put_number};
 use hal_schema::{PartDef, Schema};
 use std::alloc::Global;
 

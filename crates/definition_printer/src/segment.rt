@@ -4,9 +4,8 @@ ghost use Rattle.definition_printer.specs.Dbd.{name_of, parent_name, twin_place,
 
 use crate::field::put_fields;
 use crate::index::put_indexes;
-use crate::number::put_number;
 use crate::wrap::put_wrapped;
-use hal_base::{Bytes, Memory};
+use hal_base::{Bytes, Memory, put_number};
 use hal_schema::{IndexDef, SegType};
 use std::alloc::Global;
 

@@ -6,11 +6,11 @@ use Rattle.std.proofs.lemmas.Bool.{and_parts, and_from, and_right, or_left, or_f
 use Rattle.hal_schema.specs.declared.raw.RawField.{RawField}
 use Rattle.hal_schema.specs.declared.schema.Field.{Field}
 use Rattle.hal_schema.specs.declared.schema.KeyField.{KeyField}
-use Rattle.hal_schema.specs.Lawful.{all_differ, is_key_portion}
+use Rattle.hal_schema.specs.Lawful.{all_differ, is_key_portion, is_key_field}
 use Rattle.hal_schema.specs.Raw.{field_of, is_sequence_field, key_field}
 use Rattle.hal_schema.specs.Rules.{both_sequence}
 use Rattle.definition_printer.specs.Wrapped.{wrapped}
-use Rattle.definition_printer.specs.Dbd.{field_statement, sequence_name, is_at_key, plain_field}
+use Rattle.definition_printer.specs.Dbd.{field_statement, sequence_name, plain_field}
 use Rattle.definition_text.specs.RawDbd.{lines_in, sequence, raw_field, raw_plain, raw_keyed, raw_fields}
 
 -- the fields of a type with a sequence field, from one that stands at its place on
@@ -22,8 +22,8 @@ past_plain key line f more = raw_field line 0 f ∷ raw_keyed key (line + lines_
 
 -- what holds of both holds of the fields
 keyed : (P : List RawField → Type 0) (key : KeyField) (line : ℕ) (f : Field) (more : List Field)
-    → (is_at_key key f ≡ true → P (from_key key line f more)) → (is_at_key key f ≡ false → P (past_plain key line f more)) → P (raw_keyed key line (f ∷ more))
-keyed P key line f more here_at away = cond_both (is_at_key key f) (from_key key line f more) (past_plain key line f more) P here_at away
+    → (is_key_field key f ≡ true → P (from_key key line f more)) → (is_key_field key f ≡ false → P (past_plain key line f more)) → P (raw_keyed key line (f ∷ more))
+keyed P key line f more here_at away = cond_both (is_key_field key f) (from_key key line f more) (past_plain key line f more) P here_at away
 
 plain_back : (line : ℕ) (fields : List Field) → map field_of (raw_plain line fields) ≡ fields
 plain_back line [] = refl
@@ -42,27 +42,10 @@ fields_back (Some key) line fields = keyed_back key line fields
 
 -- ---- the sequence field
 
-abbrev pub stands_at : KeyField → Field → Bool
-stands_at k f = not (is_key_portion f.name) && f.start == k.start && f.bytes == k.bytes
-
-turned : (p s b : Bool) → (p && s && b) ≡ (s && b && p)
-turned true true true = refl
-turned true true false = refl
-turned true false true = refl
-turned true false false = refl
-turned false true true = refl
-turned false true false = refl
-turned false false true = refl
-turned false false false = refl
-
-at_key : (key : KeyField) (f : Field) → stands_at key f ≡ is_at_key key f
-at_key key f = turned (not (is_key_portion f.name)) (f.start == key.start) (f.bytes == key.bytes)
-
 -- it stands among the later fields, where it isn't this one
-among_later : (key : KeyField) (f : Field) (more : List Field) → list_any (stands_at key) (f ∷ more) ≡ true → is_at_key key f ≡ false → list_any (stands_at key) more ≡ true
+among_later : (key : KeyField) (f : Field) (more : List Field) → list_any (is_key_field key) (f ∷ more) ≡ true → is_key_field key f ≡ false → list_any (is_key_field key) more ≡ true
 among_later key f more h away =
-    let same : stands_at key f ≡ false = at_key key f ∙ away in
-    sym (ap (λ b. b || list_any (stands_at key) more) same) ∙ h
+    sym (ap (λ b. b || list_any (is_key_field key) more) away) ∙ h
 
 plain_none : (line : ℕ) (fields : List Field) → find is_sequence_field (raw_plain line fields) ≡ None
 plain_none line [] = refl
@@ -84,7 +67,7 @@ record IsAt (key : KeyField) (f : Field) : Type 0 where
   pub bytes : f.bytes ≡ key.bytes
   pub portion : is_key_portion f.name ≡ false
 
-is_at : (key : KeyField) (f : Field) → is_at_key key f ≡ true → IsAt key f
+is_at : (key : KeyField) (f : Field) → is_key_field key f ≡ true → IsAt key f
 is_at key f h =
     let a = and_parts (f.start == key.start && f.bytes == key.bytes) (not (is_key_portion f.name)) h in
     let b = and_parts (f.start == key.start) (f.bytes == key.bytes) a.0 in
@@ -101,7 +84,7 @@ key_here key line f more at =
     ∙ ap (λ (n : ℕ). Some (key_at key.start n (sequence key.unique == 1))) at.bytes
     ∙ ap (λ (u : Bool). Some (key_at key.start key.bytes u)) (unique_back key.unique)
 
-keyed_key : (key : KeyField) (line : ℕ) (fields : List Field) → list_any (stands_at key) fields ≡ true → key_field (raw_keyed key line fields) ≡ Some key
+keyed_key : (key : KeyField) (line : ℕ) (fields : List Field) → list_any (is_key_field key) fields ≡ true → key_field (raw_keyed key line fields) ≡ Some key
 keyed_key key line [] h = absurd (false≢true h)
 keyed_key key line (f ∷ more) h =
     keyed (λ (fs : List RawField). key_field fs ≡ Some key) key line f more
@@ -110,11 +93,11 @@ keyed_key key line (f ∷ more) h =
 
 -- a sequence field stands among the fields
 abbrev pub KeyIsField : Option KeyField → List Field → Bool
-KeyIsField key fields = option_map_or (λ k. nat_le k.bytes 100 && list_any (stands_at k) fields) key true
+KeyIsField key fields = option_map_or (λ k. nat_le k.bytes 100 && list_any (is_key_field k) fields) key true
 
 pub key_back : (key : Option KeyField) (line : ℕ) (fields : List Field) → KeyIsField key fields ≡ true → key_field (raw_fields key line fields) ≡ key
 key_back None line fields h = ap (option_map key_of) (plain_none line fields)
-key_back (Some key) line fields h = keyed_key key line fields (and_parts (nat_le key.bytes 100) (list_any (stands_at key) fields) h).1
+key_back (Some key) line fields h = keyed_key key line fields (and_parts (nat_le key.bytes 100) (list_any (is_key_field key) fields) h).1
 
 -- ---- at most one sequence field, and it may be one
 
@@ -175,7 +158,7 @@ keyed_good key line (f ∷ more) short =
 
 pub fields_good : (key : Option KeyField) (line : ℕ) (fields : List Field) → KeyIsField key fields ≡ true → list_all (λ f. not (is_bad f)) (raw_fields key line fields) ≡ true
 fields_good None line fields h = plain_good line fields
-fields_good (Some key) line fields h = keyed_good key line fields (and_parts (nat_le key.bytes 100) (list_any (stands_at key) fields) h).0
+fields_good (Some key) line fields h = keyed_good key line fields (and_parts (nat_le key.bytes 100) (list_any (is_key_field key) fields) h).0
 
 -- ---- a unique one: that of the root
 
@@ -195,7 +178,7 @@ is_sequence : (u : Bool) → nat_lt 0 (sequence u) ≡ true
 is_sequence true = refl
 is_sequence false = refl
 
-pub keyed_any : (key : KeyField) (line : ℕ) (fields : List Field) → list_any (stands_at key) fields ≡ true → list_any is_sequence_field (raw_keyed key line fields) ≡ true
+pub keyed_any : (key : KeyField) (line : ℕ) (fields : List Field) → list_any (is_key_field key) fields ≡ true → list_any is_sequence_field (raw_keyed key line fields) ≡ true
 keyed_any key line [] h = absurd (false≢true h)
 keyed_any key line (f ∷ more) h =
     let behind = line + lines_in (wrapped (field_statement (sequence_name key f.name) f)) in

@@ -12,7 +12,8 @@ use Rattle.dbd_reader.specs.declared.draft.Draft.{Draft}
 use Rattle.dbd_reader.specs.declared.draft.Draft.TheVariants as drafts
 use Rattle.dbd_reader.specs.Definition.{with_field}
 use Rattle.definition_printer.specs.Wrapped.{wrapped}
-use Rattle.definition_printer.specs.Dbd.{kind, sequence_name, is_at_key, plain_field, keyed_fields, fields_text, field_statement}
+use Rattle.hal_schema.specs.Lawful.{is_key_field}
+use Rattle.definition_printer.specs.Dbd.{kind, sequence_name, plain_field, keyed_fields, fields_text, field_statement}
 use Rattle.definition_text.specs.RawDbd.{lines_in, sequence, raw_field, raw_plain, raw_keyed, raw_fields}
 use Rattle.definition_text.proofs.Printed.{Value, alone, listed, value_text}
 use Rattle.definition_text.proofs.Pieced.{lines_append}
@@ -95,7 +96,7 @@ keyed_then n last dbd segm key f fs rest h more =
     rw (key_text key f.name)
     (field_then n last dbd segm v (sequence key.unique) f (flat_map plain_field fs) rest (raw_plain m fs) (key_name key f h) h.small (plain_reads m last dbd (with_field segm (raw_field n (sequence key.unique) f)) fs rest more))
 
-keyed_by : (b : Bool) (n last : ℕ) (dbd : RawDbd) (segm : RawType) (key : KeyField) (f : Field) (fs : List Field) (rest : List ℕ) → is_at_key key f ≡ b → IsPrintedField f → AllByRecursion IsPrintedField fs
+keyed_by : (b : Bool) (n last : ℕ) (dbd : RawDbd) (segm : RawType) (key : KeyField) (f : Field) (fs : List Field) (rest : List ℕ) → is_key_field key f ≡ b → IsPrintedField f → AllByRecursion IsPrintedField fs
     → ((m : ℕ) (next : RawType) → reads m (drafts.Segment dbd next) (keyed_fields key fs ++ rest) last ≡ reads (m + lines_in (keyed_fields key fs)) (in_fields dbd next (raw_keyed key m fs)) rest last)
     → reads n (drafts.Segment dbd segm) (keyed_fields key (f ∷ fs) ++ rest) last ≡ reads (n + lines_in (keyed_fields key (f ∷ fs))) (in_fields dbd segm (raw_keyed key n (f ∷ fs))) rest last
 keyed_by true n last dbd segm key f fs rest e h more later = rw e (keyed_then n last dbd segm key f fs rest h more)
@@ -106,7 +107,7 @@ keyed_by false n last dbd segm key f fs rest e h more later =
 keyed_reads : (fields : List Field) (n last : ℕ) (dbd : RawDbd) (segm : RawType) (key : KeyField) (rest : List ℕ) → AllByRecursion IsPrintedField fields
     → reads n (drafts.Segment dbd segm) (keyed_fields key fields ++ rest) last ≡ reads (n + lines_in (keyed_fields key fields)) (in_fields dbd segm (raw_keyed key n fields)) rest last
 keyed_reads [] n last dbd segm key rest h = nothing_reads n last dbd segm rest
-keyed_reads (f ∷ fs) n last dbd segm key rest h = keyed_by (is_at_key key f) n last dbd segm key f fs rest refl h.0 h.1 (λ m next. keyed_reads fs m last dbd next key rest h.1)
+keyed_reads (f ∷ fs) n last dbd segm key rest h = keyed_by (is_key_field key f) n last dbd segm key f fs rest refl h.0 h.1 (λ m next. keyed_reads fs m last dbd next key rest h.1)
 
 pub fields_read : (n last : ℕ) (dbd : RawDbd) (segm : RawType) (key : Option KeyField) (fields : List Field) (rest : List ℕ) → AllByRecursion IsPrintedField fields
     → reads n (drafts.Segment dbd segm) (fields_text key fields ++ rest) last ≡ reads (n + lines_in (fields_text key fields)) (in_fields dbd segm (raw_fields key n fields)) rest last

@@ -8,7 +8,7 @@ use Rattle.std.proofs.lemmas.List.Elements.{filter_map-append}
 use Rattle.std.proofs.lemmas.Option.{none-some, slice_get_within}
 use Rattle.hal_schema.specs.declared.schema.IndexDef.{IndexDef}
 use Rattle.hal_schema.specs.declared.schema.SegType.{SegType}
-use Rattle.hal_schema.specs.SegType.{parent_of, ancestry_within}
+use Rattle.hal_schema.specs.SegType.{parent_code, ancestry_within}
 use Rattle.hal_schema.specs.Lawful.{all_rise, is_below_first, parent_is_before, index_is_kept}
 use Rattle.hal_schema.specs.Raw.{code_named, index_of, indexes_of, put_in_order, in_order, target_below}
 use Rattle.definition_printer.specs.Dbd.{fields_text, index_text}
@@ -155,7 +155,7 @@ record IsCode (types : List SegType) (code : ℕ) : Type 0 where
   pub some : 0 < code
   pub within : code ≤ length types
 
-parent_before : (types : List SegType) (code p : ℕ) → list_all before_next (enumerate_from 1 types) ≡ true → parent_of types code ≡ Some p → (0 < p) × (p < code)
+parent_before : (types : List SegType) (code p : ℕ) → list_all before_next (enumerate_from 1 types) ≡ true → parent_code types code ≡ Some p → (0 < p) × (p < code)
 parent_before types zero p before e = absurd (none-some p e)
 parent_before types (suc k) p before e = by (slice_get types k) refl e
   where
@@ -169,19 +169,19 @@ parent_before types (suc k) p before e = by (slice_get types k) refl e
         (ltb-true 0 p some, omega (arith, lt))
 
 above_is : (types : List SegType) (most code target : ℕ) → list_all before_next (enumerate_from 1 types) ≡ true → 0 < code → code ≤ length types
-    → list_any (λ (c : ℕ). c == target) (ancestry_within most (parent_of types) code) ≡ true → IsCode types target
+    → list_any (λ (c : ℕ). c == target) (ancestry_within most (parent_code types) code) ≡ true → IsCode types target
 above_is types zero code target before some within h = absurd (false≢true h)
 above_is types (suc most) code target before some within h =
-    ⊎_elim here (λ later. up (parent_of types code) refl (λ p e f. let (low, high) = parent_before types code p before e in above_is types most p target before low (omega (arith, high, within)) f) later)
-    (or_cases (code == target) (list_any (λ (c : ℕ). c == target) (option_map_or (ancestry_within most (parent_of types)) (parent_of types code) [])) h)
+    ⊎_elim here (λ later. up (parent_code types code) refl (λ p e f. let (low, high) = parent_before types code p before e in above_is types most p target before low (omega (arith, high, within)) f) later)
+    (or_cases (code == target) (list_any (λ (c : ℕ). c == target) (option_map_or (ancestry_within most (parent_code types)) (parent_code types code) [])) h)
   where
     here : (code == target) ≡ true → IsCode types target
     here e =
         let same = eqb-true code target e in
         record { some = omega (arith, some, same); within = omega (arith, within, same) }
 
-    up : (o : Option ℕ) → parent_of types code ≡ o → ((p : ℕ) → parent_of types code ≡ Some p → list_any (λ (c : ℕ). c == target) (ancestry_within most (parent_of types) p) ≡ true → IsCode types target)
-        → list_any (λ (c : ℕ). c == target) (option_map_or (ancestry_within most (parent_of types)) o []) ≡ true → IsCode types target
+    up : (o : Option ℕ) → parent_code types code ≡ o → ((p : ℕ) → parent_code types code ≡ Some p → list_any (λ (c : ℕ). c == target) (ancestry_within most (parent_code types) p) ≡ true → IsCode types target)
+        → list_any (λ (c : ℕ). c == target) (option_map_or (ancestry_within most (parent_code types)) o []) ≡ true → IsCode types target
     up None e next h = absurd (false≢true h)
     up (Some p) e next h = next p e h
 

@@ -10,7 +10,7 @@ use Rattle.std.proofs.lemmas.Slice.Eq.{bytes_eq-Decides}
 use Rattle.hal_schema.specs.declared.schema.Field.{Field}
 use Rattle.hal_schema.specs.declared.schema.IndexDef.{IndexDef}
 use Rattle.hal_schema.specs.declared.schema.SegType.{SegType}
-use Rattle.hal_schema.specs.SegType.{type_of, parent_of, ancestry, path_key_bytes}
+use Rattle.hal_schema.specs.SegType.{type_of, parent_code, ancestry, path_key_bytes}
 use Rattle.hal_schema.specs.Lawful.{all_differ, same_field, fields_are_kept, index_is_kept, is_key_portion, is_within}
 use Rattle.hal_schema.specs.Raw.{code_named, fields_named, index_of}
 use Rattle.definition_printer.specs.Dbd.{name_of}
@@ -109,24 +109,24 @@ pub record HasSource (types : List SegType) (i : IndexDef) : Type 0 where
   pub type : SegType
   pub is : slice_get types place ≡ Some type
   pub fields : fields_are_kept types i type ≡ true
-  pub target : list_any (λ (code : ℕ). code == i.target) (ancestry (parent_of types) i.source) ≡ true
+  pub target : list_any (λ (code : ℕ). code == i.target) (ancestry (parent_code types) i.source) ≡ true
 
 pub source_of : (types : List SegType) (i : IndexDef) → index_is_kept types i ≡ true → HasSource types i
 source_of types i h =
     let long = nat_le (sum_by (λ f. f.bytes) i.search + sum_by (λ f. f.bytes) i.subseq) 240 in
     let kept = option_map_or (fields_are_kept types i) (type_of types i.source) false in
-    let above = list_any (λ (code : ℕ). code == i.target) (ancestry (parent_of types) i.source) in
+    let above = list_any (λ (code : ℕ). code == i.target) (ancestry (parent_code types) i.source) in
     let a = and_parts (above && nat_le 1 (length i.search) && nat_le (length i.search) 5 && kept) long h in
     let b = and_parts (above && nat_le 1 (length i.search) && nat_le (length i.search) 5) kept a.0 in
     let c = and_parts (above && nat_le 1 (length i.search)) (nat_le (length i.search) 5) b.0 in
     let d = and_parts above (nat_le 1 (length i.search)) c.0 in
     by i.source refl b.1 d.0
   where
-    at : (k : ℕ) → i.source ≡ suc k → (o : Option SegType) → slice_get types k ≡ o → option_map_or (fields_are_kept types i) o false ≡ true → list_any (λ (code : ℕ). code == i.target) (ancestry (parent_of types) i.source) ≡ true → HasSource types i
+    at : (k : ℕ) → i.source ≡ suc k → (o : Option SegType) → slice_get types k ≡ o → option_map_or (fields_are_kept types i) o false ≡ true → list_any (λ (code : ℕ). code == i.target) (ancestry (parent_code types) i.source) ≡ true → HasSource types i
     at k e None f h above = absurd (false≢true h)
     at k e (Some t) f h above = record { place = k; source = e; type = t; is = f; fields = h; target = above }
 
-    by : (code : ℕ) → i.source ≡ code → option_map_or (fields_are_kept types i) (type_of types code) false ≡ true → list_any (λ (code : ℕ). code == i.target) (ancestry (parent_of types) i.source) ≡ true → HasSource types i
+    by : (code : ℕ) → i.source ≡ code → option_map_or (fields_are_kept types i) (type_of types code) false ≡ true → list_any (λ (code : ℕ). code == i.target) (ancestry (parent_code types) i.source) ≡ true → HasSource types i
     by zero e h above = absurd (false≢true h)
     by (suc k) e h above = at k e (slice_get types k) refl h above
 

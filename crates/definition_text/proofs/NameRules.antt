@@ -20,7 +20,7 @@ use Rattle.hal_schema.specs.SegType.{level_of}
 use Rattle.hal_schema.specs.Lawful.{all_differ, index_is_kept}
 use Rattle.hal_schema.specs.Places.{statement, when, passing}
 use Rattle.hal_schema.specs.Raw.{code_named, field_of, index_of, types_of}
-use Rattle.hal_schema.specs.Rules.{names_twice, type_name, index_name, fields_of, field_names, indexes_broken}
+use Rattle.hal_schema.specs.Rules.{names_twice, type_name, index_name, named_fields, field_names, indexes_broken}
 use Rattle.definition_text.specs.RawDbd.{behind_segm, raw_fields, raw_type, raw_types, raw_index, raw_over, raw_indexes}
 use Rattle.definition_text.proofs.FieldsBack.{fields_back}
 use Rattle.definition_text.proofs.TypesBack.{NamesDiffer, line_behind, raws_length}
@@ -145,7 +145,7 @@ named_at types k t known e j u f = either_way (bytes_eq u.name t.name) (1 + j ==
         let type : u ≡ t = same_Some u t (sym f ∙ ap (slice_get types) place ∙ e) in
         (bytes_eq-Decides u.name t.name).1 (ap (λ (v : SegType). v.name) type)
 
-only_names : (fields : List RawField) (indexes : List RawIndex) → map (λ (n : Named). n.name) (fields_of fields ++ map (λ (i : RawIndex). record { name = i.xdfld; place = statement i.line }) indexes)
+only_names : (fields : List RawField) (indexes : List RawIndex) → map (λ (n : Named). n.name) (named_fields fields ++ map (λ (i : RawIndex). record { name = i.xdfld; place = statement i.line }) indexes)
     ≡ map (λ (f : RawField). f.name) fields ++ map raw_xdfld indexes
 only_names fields indexes =
     let of_field : RawField → Named = λ f. record { name = f.name; place = statement f.line } in

@@ -11,7 +11,7 @@ use Rattle.hal_schema.specs.declared.schema.SegType.{SegType}
 use Rattle.hal_schema.specs.declared.schema.PartDef.{PartDef}
 use Rattle.hal_schema.specs.declared.schema.Schema.{Schema}
 use Rattle.hal_schema.specs.SegType.{key_bytes}
-use Rattle.hal_schema.specs.Lawful.{is_key_portion, is_within, field_fits, fields_fit, keys_are_fields, root_key_is_unique, factors_fit, number_fits, part_is_kept, part_is_stored, blocks_are_kept}
+use Rattle.hal_schema.specs.Lawful.{is_key_portion, is_key_field, is_within, field_fits, fields_fit, keys_are_fields, root_key_is_unique, factors_fit, number_fits, part_is_kept, part_is_stored, blocks_are_kept}
 use Rattle.hex.specs.Hex.{IsBytes}
 
 -- A partition as its type holds it, with a name that is no `/CK` name, and a high key of one byte or more.
@@ -38,28 +38,25 @@ bytes_from (b ∷ s) h (suc i) =
 
 -- ---- the root key
 
-abbrev stands_at : KeyField → Field → Bool
-stands_at k f = not (is_key_portion f.name) && f.start == k.start && f.bytes == k.bytes
-
-field_some : (n : ℕ) (k : KeyField) (f : Field) → stands_at k f ≡ true → field_fits n f ≡ true → 0 < k.bytes
+field_some : (n : ℕ) (k : KeyField) (f : Field) → is_key_field k f ≡ true → field_fits n f ≡ true → 0 < k.bytes
 field_some n k f at fits =
-    let a = and_parts (not (is_key_portion f.name) && f.start == k.start) (f.bytes == k.bytes) at in
-    let b = and_parts (not (is_key_portion f.name)) (f.start == k.start) a.0 in
-    let no : is_key_portion f.name ≡ false = not-true (is_key_portion f.name) b.0 in
+    let a = and_parts (f.start == k.start && f.bytes == k.bytes) (not (is_key_portion f.name)) at in
+    let b = and_parts (f.start == k.start) (f.bytes == k.bytes) a.0 in
+    let no : is_key_portion f.name ≡ false = not-true (is_key_portion f.name) a.1 in
     let within : is_within n f.start f.bytes ≡ true = rw no at fits in
     let c = and_parts (nat_le 1 f.start && nat_le 1 f.bytes) (nat_le (f.start + f.bytes) (n + 1)) within in
     let d = and_parts (nat_le 1 f.start) (nat_le 1 f.bytes) c.0 in
     let some = leb-true 1 f.bytes d.1 in
-    let same = eqb-true f.bytes k.bytes a.1 in
+    let same = eqb-true f.bytes k.bytes b.1 in
     omega (arith, some, same)
 
-any_some : (n : ℕ) (k : KeyField) (fields : List Field) → list_any (stands_at k) fields ≡ true → list_all (field_fits n) fields ≡ true → 0 < k.bytes
+any_some : (n : ℕ) (k : KeyField) (fields : List Field) → list_any (is_key_field k) fields ≡ true → list_all (field_fits n) fields ≡ true → 0 < k.bytes
 any_some n k [] h all = cc
 any_some n k (f ∷ fields) h all =
     let (fits, more) = and_parts (field_fits n f) (list_all (field_fits n) fields) all in
-    by (or_cases (stands_at k f) (list_any (stands_at k) fields) h) fits (λ later. any_some n k fields later more)
+    by (or_cases (is_key_field k f) (list_any (is_key_field k) fields) h) fits (λ later. any_some n k fields later more)
   where
-    by : (stands_at k f ≡ true) ⊎ (list_any (stands_at k) fields ≡ true) → field_fits n f ≡ true → (list_any (stands_at k) fields ≡ true → 0 < k.bytes) → 0 < k.bytes
+    by : (is_key_field k f ≡ true) ⊎ (list_any (is_key_field k) fields ≡ true) → field_fits n f ≡ true → (list_any (is_key_field k) fields ≡ true → 0 < k.bytes) → 0 < k.bytes
     by (inl at) fits rest = field_some n k f at fits
     by (inr later) fits rest = rest later
 
@@ -70,9 +67,9 @@ key_some (t ∷ types) keys fields root =
     let (fit, _) = and_parts _ (list_all _ types) fields in
     by t.key key (and_parts (nat_le 1 t.bytes && nat_le t.bytes 2000) (list_all (field_fits t.bytes) t.fields) fit).1 root
   where
-    by : (key : Option KeyField) → option_map_or (λ k. nat_le k.bytes 100 && list_any (stands_at k) t.fields) key true ≡ true → list_all (field_fits t.bytes) t.fields ≡ true → option_map_or (λ k. k.unique) key false ≡ true → 0 < option_map_or (λ k. k.bytes) key 0
+    by : (key : Option KeyField) → option_map_or (λ k. nat_le k.bytes 100 && list_any (is_key_field k) t.fields) key true ≡ true → list_all (field_fits t.bytes) t.fields ≡ true → option_map_or (λ k. k.unique) key false ≡ true → 0 < option_map_or (λ k. k.bytes) key 0
     by None h fit root = cc
-    by (Some k) h fit root = any_some t.bytes k t.fields (and_parts (nat_le k.bytes 100) (list_any (stands_at k) t.fields) h).1 fit
+    by (Some k) h fit root = any_some t.bytes k t.fields (and_parts (nat_le k.bytes 100) (list_any (is_key_field k) t.fields) h).1 fit
 
 -- ---- the partitions
 

@@ -1,4 +1,5 @@
 -- Names, numbers and lists of names as they are printed read as themselves.
+use Rattle.hal_base.specs.Numbers.{number_of}
 use Rattle.std.proofs.Common.{◌≡◌, ℕ, ◌+◌, ◌-◌, ◌*◌, ◌/◌, ◌%◌, ◌^◌, ◌<◌, ◌≤◌, Bool, true, false, ◌&&◌, ◌==◌, nat_le, nat_lt, List, [], ◌∷◌, ◌++◌, length, map, Some, Ok, codes, decimal, refl, sym, ap, ◌∙◌, arith, inl, inr, subst}
 use Rattle.std.proofs.lemmas.Bool.{and_parts, and_from, or_cases, leb-true, le-leb, le-ltb, lt-ltb, ne_eqb}
 use Rattle.std.proofs.lemmas.Bool.Decides.{nat_tests}
@@ -8,7 +9,7 @@ use Rattle.std.proofs.lemmas.List.Sums.{fold-append}
 use Rattle.std.specs.List.{list_all, list_any}
 use Rattle.hal_base.specs.Name.{is_name, is_name_letter, is_name_byte, is_portion_name, is_field_name, is_digit, upper}
 use Rattle.dbd_reader.specs.Operands.{inside, parts, pieces_from}
-use Rattle.dbd_reader.specs.Values.{name_value, is_system_name, field_value, number_of, is_number, number_value, access_of, access_value, rmname_of, rmname_value, parent_value, bytes_of, bytes_value, rules_of, rules_value, letter_value, keyed_of, keyed_value, child_of, child_value, index_value, fields_of, fields_value, search_value}
+use Rattle.dbd_reader.specs.Values.{name_value, is_system_name, field_value, is_number, number_value, access_of, access_value, rmname_of, rmname_value, parent_value, bytes_of, bytes_value, rules_of, rules_value, letter_value, keyed_of, keyed_value, child_of, child_value, index_value, fields_of, fields_value, search_value}
 use Rattle.definition_printer.specs.Dbd.{method, twin_place}
 use Rattle.definition_text.specs.RawDbd.{sequence}
 use Rattle.definition_text.proofs.Printed.{is_inner, is_short, listed, value_text, IsValue, all_imply, short_inner}

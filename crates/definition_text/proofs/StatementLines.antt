@@ -8,7 +8,8 @@ use Rattle.std.proofs.lemmas.Option.{slice_get_past}
 use Rattle.std.specs.List.{list_all, slice_split, onto_first, prefix_len, take_while}
 use Rattle.std.specs.Str.Lines.{lines, lines_of_parts, strip_carriage_return}
 use Rattle.dbd_reader.specs.declared.statement.Statement.{Statement}
-use Rattle.dbd_reader.specs.Lines.{is_printable, is_comment, is_marked}
+use Rattle.hal_base.specs.Bytes.{is_printable}
+use Rattle.dbd_reader.specs.Lines.{is_comment, is_marked}
 use Rattle.dbd_reader.specs.Words.{is_blank, is_dark, past, word_at, behind_word, from_word, operands_of, comment_of, ends_in_comma}
 use Rattle.dbd_reader.specs.Statements.{bad_at, begun, goes_on, carried, extended, taken, statements}
 use Rattle.definition_printer.specs.Wrapped.{on_lines}

@@ -10,13 +10,13 @@ use Rattle.hal_schema.specs.declared.raw.RawType.{RawType}
 use Rattle.hal_schema.specs.declared.schema.IndexDef.{IndexDef}
 use Rattle.hal_schema.specs.declared.schema.KeyField.{KeyField}
 use Rattle.hal_schema.specs.declared.schema.SegType.{SegType}
-use Rattle.hal_schema.specs.Lawful.{parent_is_before, field_fits}
+use Rattle.hal_schema.specs.Lawful.{parent_is_before, field_fits, is_key_field}
 use Rattle.hal_schema.specs.Places.{statement, when, twice}
 use Rattle.hal_schema.specs.Raw.{code_of, code_named, field_of, is_sequence_field}
 use Rattle.hal_schema.specs.Rules.{is_unknown_parent, unknown_parents, misplaced_roots, sizes_in, sizes_broken, both_sequence, sequence_broken, root_key_broken, letters_unknown}
 use Rattle.definition_printer.specs.Dbd.{name_of}
 use Rattle.definition_text.specs.RawDbd.{behind_segm, raw_fields, raw_keyed, raw_type, raw_types}
-use Rattle.definition_text.proofs.FieldsBack.{KeyIsField, stands_at, fields_back, fields_differ, fields_good, is_bad, keyed_single, keyed_any}
+use Rattle.definition_text.proofs.FieldsBack.{KeyIsField, fields_back, fields_differ, fields_good, is_bad, keyed_single, keyed_any}
 use Rattle.definition_text.proofs.TypesBack.{NamesDiffer, before_next, has_key, line_behind, raws_code, code_back}
 use Rattle.definition_text.proofs.IndexesBack.{AreKnown}
 use Rattle.definition_text.proofs.NoPlaces.{both_none, never, never_not, none_fails, none_breaks, twice_none}
@@ -124,7 +124,7 @@ root_keyed types line t (Some k) e h u =
     let raws = raw_fields t.key behind t.fields in
     let same : raws ≡ raw_keyed k behind t.fields = ap (λ (o : Option KeyField). raw_fields o behind t.fields) e in
     let told : KeyIsField (Some k) t.fields ≡ true = ap (λ (o : Option KeyField). KeyIsField o t.fields) (sym e) ∙ h in
-    let among = (and_parts (nat_le k.bytes 100) (list_any (stands_at k) t.fields) told).1 in
+    let among = (and_parts (nat_le k.bytes 100) (list_any (is_key_field k) t.fields) told).1 in
     both_none (when (not (list_any is_sequence_field raws)) (statement line)) (flat_map (λ (f : RawField). when (nat_lt 1 f.seq) (statement f.line)) raws)
     (never_not (list_any is_sequence_field raws) (statement line) (ap (list_any is_sequence_field) same ∙ keyed_any k behind t.fields among))
     (none_breaks (λ (f : RawField). nat_lt 1 f.seq) (λ (f : RawField). statement f.line) raws (ap (list_all (λ (f : RawField). not (nat_lt 1 f.seq))) same ∙ keyed_single k behind t.fields u))

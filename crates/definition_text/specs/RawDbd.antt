@@ -12,7 +12,8 @@ use Rattle.hal_schema.specs.declared.schema.SegType.{SegType}
 use Rattle.hal_schema.specs.declared.schema.IndexDef.{IndexDef}
 use Rattle.hal_schema.specs.declared.schema.Schema.{Schema}
 use Rattle.definition_printer.specs.Wrapped.{wrapped}
-use Rattle.definition_printer.specs.Dbd.{name_of, dbd_statement, segm_statement, field_statement, sequence_name, is_at_key, plain_field, fields_text, index_text, type_text}
+use Rattle.hal_schema.specs.Lawful.{is_key_field}
+use Rattle.definition_printer.specs.Dbd.{name_of, dbd_statement, segm_statement, field_statement, sequence_name, plain_field, fields_text, index_text, type_text}
 use Rattle.definition_text.specs.Raw.{raw_parts_of}
 
 -- how many lines a text takes, each with its end
@@ -36,7 +37,7 @@ raw_plain line (f ∷ more) = raw_field line 0 f ∷ raw_plain (line + lines_in 
 abbrev pub raw_keyed : KeyField → ℕ → List Field → List RawField
 raw_keyed key line [] = []
 raw_keyed key line (f ∷ more) =
-    if is_at_key key f then raw_field line (sequence key.unique) f ∷ raw_plain (line + lines_in (wrapped (field_statement (sequence_name key f.name) f))) more
+    if is_key_field key f then raw_field line (sequence key.unique) f ∷ raw_plain (line + lines_in (wrapped (field_statement (sequence_name key f.name) f))) more
     else raw_field line 0 f ∷ raw_keyed key (line + lines_in (plain_field f)) more
 
 abbrev pub raw_fields : Option KeyField → ℕ → List Field → List RawField

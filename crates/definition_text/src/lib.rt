@@ -1,4 +1,5 @@
-//! The texts of definitions, both ways, and that what was printed reads back.
+//! The texts of definitions, both ways, and that what was printed reads back: `print` has the two calls that print,
+//! with this theorem; the two that read are those of the readers.
 #![tactic(auto)]
 
 mod print;

@@ -1,3 +1,4 @@
 pub mod ImageLemmas
 pub mod ShelfLemmas
 pub mod StopLemmas
+pub mod StoreLemmas

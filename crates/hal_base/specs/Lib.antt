@@ -2,8 +2,10 @@ pub mod Bytes
 pub mod Disk
 pub mod Fault
 pub mod Name
+pub mod Numbers
 pub mod Outcome
 pub mod Pages
+pub mod Reading
 pub mod Room
 pub mod Said
 pub mod ShelfCalls

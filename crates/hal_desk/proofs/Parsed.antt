@@ -22,7 +22,7 @@ use Rattle.clap.specs.declared.parser.matches.ArgMatches.TheViews.{out-SubComman
 use Rattle.clap.specs.declared.parser.matches.SubCommand.{SubCommand}
 use Rattle.std.specs.Box.{box_value}
 use Rattle.hal_desk.specs.declared.words.Command.{Command}
-use Rattle.hal_desk.specs.Words.{command_of, is_word, number_of, of_count, of_part, of_volume, row_of}
+use Rattle.hal_desk.specs.Words.{command_of, is_word, number_within, of_count, of_part, of_volume, row_of}
 use Rattle.hal_desk.specs.Grammar.{HasParsed, command_by, command_in, command_of_row, grammar}
 use Rattle.hal_desk.proofs.Walks.{row_met, row_walk, stray_here}
 use Rattle.hal_desk.proofs.Levels.{Leads, LevelLeads, NoCount, NoPart, NoVolume, count_leads, count_level, first_is, part_leads, part_level, rest_is, volume_leads, volume_level}
@@ -285,7 +285,7 @@ no_number_given name v c f is part count number =
 
 pub count_given : (name v c n : Text) (f : Found) → Some v ≡ first_value f (codes "volume") → None ≡ first_value f (codes "part") → Some c ≡ first_value f (codes "count")
     → Some n ≡ first_value f (codes "number")
-    → of_count name v (number_of 1 10000 c) (number_of 0 4294967295 n) ≡ command_of_row name (rows_of f)
+    → of_count name v (number_within 1 10000 c) (number_within 0 4294967295 n) ≡ command_of_row name (rows_of f)
 count_given name v c n f is part count number =
     ap (λ x. command_by name (Some v) None (Some c) x) (number ∙ first_value-rows f (codes "number")) ∙ no_part name v f (Some c) is part count
 

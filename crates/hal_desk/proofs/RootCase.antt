@@ -1,12 +1,13 @@
 -- In a forest of the first schema all rows are roots in the order of their keys, and inserting one is inserting it there.
 use Rattle.std.proofs.Common.{◌≡◌, ℕ, zero, suc, ◌+◌, ◌<◌, ◌≤◌, Bool, true, false, cond, not, List, [], ◌∷◌, ◌++◌, length, reverse, insert, take, drop, nat_lt, IsTrue, codes, unwrap_or, Option, None, Some, IsSome, refl, sym, ap, ◌∙◌, subst, arith, get_or}
-use Rattle.std.specs.List.{prefix_len, AllPairs, AllByRecursion}
+use Rattle.std.specs.Prelude.{◌==◌, ◌&&◌, ◌||◌, filter, is_some, is_none}
+use Rattle.std.specs.List.{prefix_len, list_all}
 use Rattle.std.proofs.lemmas.Grind.{reverse_onto}
 use Rattle.std.proofs.lemmas.List.{length-reverse}
-use Rattle.std.proofs.lemmas.Bool.{true≢false}
+use Rattle.std.proofs.lemmas.Bool.{true≢false, and_parts}
 use Rattle.std.proofs.lemmas.Slice.Eq.{bytes_eq-Decides}
 use Rattle.std.proofs.lemmas.Map.Lookups.{exact_bytes}
-use Rattle.std.specs.Option.{IsSomeAnd}
+use Rattle.std.specs.Option.{option_map_or}
 use Rattle.std.specs.declared.cmp.Ordering.{Ordering}
 use Rattle.std.specs.declared.cmp.Ordering.TheVariants.{Less, Equal, Greater}
 use Rattle.std.specs.Ordering.{ordering_reverse, ordering_then, is_lt, is_le, nat_cmp}
@@ -15,10 +16,11 @@ use Rattle.std.specs.Str.{bytes_eq}
 use Rattle.hal_base.specs.declared.place.Ilk.{Ilk}
 use Rattle.hal_schema.specs.declared.row.Row.{Row}
 use Rattle.hal_schema.specs.First.{first_schema, first_types}
-use Rattle.hal_schema.specs.Forest.{HasLength, IsBelowParent, EachAfter, AreTwins, MayFollow}
-use Rattle.hal_schema.specs.Insertion.{through_last, stands_before, goes_before, inserted, place_of}
+use Rattle.hal_schema.specs.Forest.{has_length, is_path, is_child_of, is_selected, may_follow, in_twin_order, rows_are_named, rows_are_below_parents, types_rise, twins_rise, keys_are_placed, entries_differ, all_pairs, names_apart}
+use Rattle.hal_schema.specs.Insertion.{through_last, stands_before, goes_before, inserted, insertion_place}
 use Rattle.hal_schema.specs.Keys.{key_cmp}
-use Rattle.hal_schema.specs.Row.{key_of}
+use Rattle.hal_schema.specs.Row.{row_key, row_level, are_twins}
+use Rattle.hal_schema.specs.Paths.{path_with, with_paths, paths_of}
 use Rattle.hal_schema.specs.Roots.{partition_of, partition_place, root_cmp}
 use Rattle.hal_schema.specs.SegType.{type_of, level_of}
 use Rattle.hal_schema.specs.declared.schema.SegType.{SegType}
@@ -93,8 +95,8 @@ as_root row e f =
     let h : b ≡ new_root row.name row.content = ap (λ (q : Option Ilk). record { name = row.name; code = 1; parent = q; content = row.content }) f in
     g ∙ h
 
-key_is : (row : Row) → row.code ≡ 1 → key_of first_types row ≡ root_key row
-key_is row e = ap (λ (c : ℕ). key_of first_types (record { name = row.name; code = c; parent = row.parent; content = row.content })) e
+key_is : (row : Row) → row.code ≡ 1 → row_key first_types row ≡ root_key row
+key_is row e = ap (λ (c : ℕ). row_key first_types (record { name = row.name; code = c; parent = row.parent; content = row.content })) e
 
 abbrev place_in : Bool → Option ℕ
 place_in b = cond (nat_lt (cond (not b) 1 0) 1) (Some (cond (not b) 1 0)) None
@@ -127,39 +129,63 @@ is_less Equal h = cc
 is_less Greater h = cc
 
 follow_at : (m n : Ilk) (x y : List ℕ) → IsSome (partition_of first_schema (take 3 x)) → IsSome (partition_of first_schema (take 3 y))
-    → MayFollow first_schema (new_root m x) (new_root n y) → key_cmp (take 3 x) (take 3 y) ≡ Less
+    → in_twin_order first_schema (new_root m x) (new_root n y) ≡ true → key_cmp (take 3 x) (take 3 y) ≡ Less
 follow_at m n x y p q h = sym (root_same (take 3 x) (take 3 y) p q) ∙ is_less (root_cmp first_schema (take 3 x) (take 3 y)) h
 
-follow : (a b : Row) → IsRootRow a → IsRootRow b → (AreTwins a b → MayFollow first_schema a b) → key_cmp (root_key a) (root_key b) ≡ Less
+follow : (a b : Row) → IsRootRow a → IsRootRow b → in_twin_order first_schema a b ≡ true → key_cmp (root_key a) (root_key b) ≡ Less
 follow a b p q h =
-    let twins : AreTwins a b = (p.code ∙ sym q.code, p.parent ∙ sym q.parent) in
-    let P : Row → Type 0 = λ r. MayFollow first_schema r b in
-    let Q : Row → Type 0 = λ r. MayFollow first_schema (new_root a.name a.content) r in
-    follow_at a.name b.name a.content b.content p.selected q.selected (subst Q (as_root b q.code q.parent) (subst P (as_root a p.code p.parent) (h twins)))
+    let P : Row → Type 0 = λ r. in_twin_order first_schema r b ≡ true in
+    let Q : Row → Type 0 = λ r. in_twin_order first_schema (new_root a.name a.content) r ≡ true in
+    follow_at a.name b.name a.content b.content p.selected q.selected (subst Q (as_root b q.code q.parent) (subst P (as_root a p.code p.parent) h))
 
-code_one : (n : ℕ) (P : SegType → Type 0) → IsSomeAnd (type_of first_types n) P → n ≡ 1
-code_one zero P h = absurd h
-code_one (suc zero) P h = refl
-code_one (suc (suc n)) P h = absurd h
+code_one : (n m : ℕ) → option_map_or (λ (t : SegType). m == t.bytes) (type_of first_types n) false ≡ true → n ≡ 1
+code_one zero m h = cc
+code_one (suc zero) m h = refl
+code_one (suc (suc n)) m h = cc
 
 AllRoots : List Row → Type 0
 AllRoots [] = Unit {0}
 AllRoots (row ∷ rows) = IsRootRow row × AllRoots rows
 
-parent_none : (before : List Row) (row : Row) → row.code ≡ 1 → IsBelowParent first_types before row → row.parent ≡ None
-parent_none before row e h =
-    let P : ℕ → Type 0 = λ c. IsBelowParent first_types before (record { name = row.name; code = c; parent = row.parent; content = row.content }) in
-    subst P e h
+AllCodes : List Row → Type 0
+AllCodes [] = Unit {0}
+AllCodes (row ∷ rows) = (row.code ≡ 1) × AllCodes rows
 
-all_roots : (before rows : List Row) → AllByRecursion (HasLength first_types) rows → EachAfter (IsBelowParent first_types) before rows
-    → AllByRecursion (λ (row : Row). row.code ≡ 1 → IsSome (partition_of first_schema (key_of first_types row))) rows → AllRoots rows
-unfolding AllRoots
-all_roots before [] long placed selected = tt
-all_roots before (row ∷ rows) long placed selected =
-    let e : row.code ≡ 1 = code_one row.code (λ t. length row.content ≡ t.bytes) long.0 in
-    let P : List ℕ → Type 0 = λ k. IsSome (partition_of first_schema k) in (
-      record { code = e; parent = parent_none before row e placed.0; selected = subst P (key_is row e) (selected.0 e) },
-      all_roots (before ++ row ∷ []) rows long.1 placed.1 selected.1,
+-- no root is above another
+none_above : (path : List Row) (row : Row) → AllCodes path → row.code ≡ 1 → filter (λ above. nat_lt (row_level first_types above) (row_level first_types row)) path ≡ []
+unfolding AllCodes
+none_above [] row all e = refl
+none_above (a ∷ path) row all e =
+    let apart : nat_lt (level_of first_types a.code) (level_of first_types row.code) ≡ false =
+    ap (λ c. nat_lt (level_of first_types c) (level_of first_types row.code)) all.0 ∙ ap (λ c. nat_lt (level_of first_types 1) (level_of first_types c)) e in
+    let rest = filter (λ above. nat_lt (row_level first_types above) (row_level first_types row)) path in
+    ap (λ b. cond b (a ∷ rest) rest) apart ∙ none_above path row all.1 e
+
+is_nothing : {X : Type 0} (o : Option X) → is_none o ≡ true → o ≡ None
+is_nothing None h = refl
+is_nothing (Some x) h = cc
+
+selected_at : (row : Row) → row.code ≡ 1 → is_selected first_schema row ≡ true → IsSome (partition_of first_schema (root_key row))
+selected_at row e h =
+    let key = key_is row e in
+    let one : is_some (partition_of first_schema (row_key first_types row)) ≡ true = sym (ap (λ (c : ℕ). not (c == 1) || is_some (partition_of first_schema (row_key first_types row))) e) ∙ h in
+    sym (ap (λ k. is_some (partition_of first_schema k)) key) ∙ one
+
+all_roots : (path rows : List Row) → AllCodes path → list_all (has_length first_types) rows ≡ true → list_all (λ p. is_path first_types None p.0) (with_paths (row_level first_types) path rows) ≡ true
+    → list_all (is_selected first_schema) rows ≡ true → AllRoots rows
+unfolding AllRoots AllCodes
+all_roots path [] codes long placed selected = tt
+all_roots path (row ∷ rows) codes long placed selected =
+    let l = and_parts (has_length first_types row) (list_all (has_length first_types) rows) long in
+    let s = and_parts (is_selected first_schema row) (list_all (is_selected first_schema) rows) selected in
+    let e : row.code ≡ 1 = code_one row.code (length row.content) l.0 in
+    let alone : path_with (row_level first_types) path row ≡ row ∷ [] = ap (λ (above : List Row). above ++ row ∷ []) (none_above path row codes e) in
+    let here = and_parts _ _ placed in
+    let child : is_path first_types None (row ∷ []) ≡ true = sym (ap (is_path first_types None) alone) ∙ here.0 in
+    let root = and_parts (row.code == 1) (is_none row.parent) (and_parts (is_child_of first_types None row) true child).0 in
+    let rest = subst (λ (p : List Row). list_all (λ p. is_path first_types None p.0) (with_paths (row_level first_types) p rows) ≡ true) alone here.1 in (
+      record { code = e; parent = is_nothing row.parent root.1; selected = selected_at row e s.0 },
+      all_roots (row ∷ []) rows (e, tt) l.1 rest s.1,
     )
 
 -- each later root is above
@@ -171,22 +197,19 @@ Rising : List Row → Type 0
 Rising [] = Unit {0}
 Rising (row ∷ rows) = Above (root_key row) rows × Rising rows
 
-above_all : (row : Row) (rows : List Row) → IsRootRow row → AllRoots rows → ((j : ℕ) (d : Row) → j < length rows → AreTwins row (get_or rows j d) → MayFollow first_schema row (get_or rows j d)) → Above (root_key row) rows
+above_all : (row : Row) (rows : List Row) → IsRootRow row → AllRoots rows → list_all (in_twin_order first_schema row) rows ≡ true → Above (root_key row) rows
 unfolding AllRoots Above
 above_all row [] is roots h = tt
 above_all row (next ∷ rows) is roots h =
-    let first : 0 < length (next ∷ rows) = omega arith in (
-      follow row next is roots.0 (h 0 next first),
-      above_all row rows is roots.1 (λ j d lt. let more : suc j < length (next ∷ rows) = omega (arith, lt) in h (suc j) d more),
-    )
+    let p = and_parts (in_twin_order first_schema row next) (list_all (in_twin_order first_schema row) rows) h in
+    (follow row next is roots.0 p.0, above_all row rows is roots.1 p.1)
 
-rising : (rows : List Row) → AllRoots rows → AllPairs (λ (a b : Row). AreTwins a b → MayFollow first_schema a b) rows → Rising rows
+rising : (rows : List Row) → AllRoots rows → all_pairs (in_twin_order first_schema) rows ≡ true → Rising rows
 unfolding AllRoots Rising
 rising [] roots h = tt
-rising (row ∷ rows) roots h = (
-  above_all row rows roots.0 roots.1 (λ j d lt. let first : 0 < suc j = omega arith in let more : suc j < length (row ∷ rows) = omega (arith, lt) in h 0 (suc j) d first more),
-  rising rows roots.1 (λ i j d lt len. let up : suc i < suc j = omega (arith, lt) in let more : suc j < length (row ∷ rows) = omega (arith, len) in h (suc i) (suc j) d up more),
-)
+rising (row ∷ rows) roots h =
+    let p = and_parts (list_all (in_twin_order first_schema row) rows) (all_pairs (in_twin_order first_schema) rows) h in
+    (above_all row rows roots.0 roots.1 p.0, rising rows roots.1 p.1)
 
 -- ---- inserting
 
@@ -246,14 +269,21 @@ no_deeper zero (row ∷ rows) roots = ap (λ (c : ℕ). cond (nat_lt (level_of f
 no_deeper (suc k) (row ∷ rows) roots = no_deeper k rows roots.1
 
 pub insertion_is_a_case : InsertionIsACase
+unfolding AllCodes
 insertion_is_a_case rows new forest is =
-    let roots : AllRoots rows = all_roots [] rows forest.long forest.placed forest.selected in
-    let up : Rising rows = rising rows roots forest.keys_rise in
+    let a = and_parts _ (keys_are_placed first_schema rows) forest in
+    let b = and_parts _ (twins_rise first_schema rows) a.0 in
+    let c = and_parts _ (types_rise rows) b.0 in
+    let d = and_parts (rows_are_named first_types rows) (rows_are_below_parents first_types rows) c.0 in
+    let named = and_parts (all_pairs names_apart rows) (list_all (has_length first_types) rows) d.0 in
+    let placed = and_parts (list_all (is_selected first_schema) rows) (list_all (entries_differ first_types rows) []) a.1 in
+    let roots : AllRoots rows = all_roots [] rows tt named.1 d.1 placed.0 in
+    let up : Rising rows = rising rows roots b.1 in
     let P : List ℕ → Type 0 = λ k. IsSome (partition_of first_schema k) in
     let q : IsSome (partition_of first_schema (root_key new)) = subst P (key_is new is.code) is.selected in
     let Q : Row → Type 0 = λ r. inserted first_schema rows r ≡ root_inserted r rows in
     let at : Row = new_root new.name new.content in
     let after : ℕ = through_last (stands_before first_schema at) rows in
-    let place : place_of first_schema rows at ≡ after = omega (arith, no_deeper after rows roots) in
+    let place : insertion_place first_schema rows at ≡ after = omega (arith, no_deeper after rows roots) in
     subst Q (sym (as_root new is.code is.parent))
     (ap (λ (k : ℕ). insert rows k at) place ∙ insert_root rows new.name new.content roots up q is.fresh)

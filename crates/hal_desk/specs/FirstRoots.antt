@@ -1,10 +1,10 @@
 -- The list of roots as a forest of the first schema.
-use Rattle.std.specs.Prelude.{◌≡◌, List, None, IsSome}
+use Rattle.std.specs.Prelude.{◌≡◌, List, None, IsSome, IsTrue}
 use Rattle.hal_schema.specs.declared.row.Row.{Row}
 use Rattle.hal_schema.specs.First.{first_schema}
-use Rattle.hal_schema.specs.Forest.{IsForest}
+use Rattle.hal_schema.specs.Forest.{is_forest}
 use Rattle.hal_schema.specs.Insertion.{inserted}
-use Rattle.hal_schema.specs.Row.{key_of}
+use Rattle.hal_schema.specs.Row.{row_key}
 use Rattle.hal_schema.specs.Roots.{partition_of}
 use Rattle.hal_desk.specs.State.{root_key, root_of, root_inserted}
 
@@ -12,9 +12,9 @@ use Rattle.hal_desk.specs.State.{root_key, root_of, root_inserted}
 pub record IsNewRoot (rows : List Row) (new : Row) : Type 0 where
   pub code : new.code ≡ 1
   pub parent : new.parent ≡ None
-  pub selected : IsSome (partition_of first_schema (key_of first_schema.types new))
+  pub selected : IsSome (partition_of first_schema (row_key first_schema.types new))
   pub fresh : root_of (root_key new) rows ≡ None
 
 -- in a forest of the first schema, the new root goes where every schema's insertion puts it
 abbrev pub InsertionIsACase : Type 0
-InsertionIsACase = (rows : List Row) (new : Row) → IsForest first_schema rows → IsNewRoot rows new → inserted first_schema rows new ≡ root_inserted new rows
+InsertionIsACase = (rows : List Row) (new : Row) → IsTrue (is_forest first_schema rows) → IsNewRoot rows new → inserted first_schema rows new ≡ root_inserted new rows

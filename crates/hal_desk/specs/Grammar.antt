@@ -4,7 +4,7 @@ use Rattle.clap.specs.Words.{App, Row, Rule, Shape, Text, fault_of, first_of, ne
 use Rattle.clap.specs.Simple.{new_shape}
 use Rattle.clap.specs.declared.parser.matches.ArgMatches.{ArgMatches}
 use Rattle.hal_desk.specs.declared.words.Command.{Command}
-use Rattle.hal_desk.specs.Words.{number_of, of_count, of_part, of_volume}
+use Rattle.hal_desk.specs.Words.{number_within, of_count, of_part, of_volume}
 
 -- a word that has to be there, by its place
 abbrev pub required : Text → Rule
@@ -47,7 +47,7 @@ command_by name None part count number = None
 command_by name (Some volume) (Some part) count number = of_part name volume part
 command_by name (Some volume) None None number = of_volume name volume
 command_by name (Some volume) None (Some count) None = None
-command_by name (Some volume) None (Some count) (Some number) = of_count name volume (number_of 1 10000 count) (number_of 0 4294967295 number)
+command_by name (Some volume) None (Some count) (Some number) = of_count name volume (number_within 1 10000 count) (number_within 0 4294967295 number)
 
 -- the command of the row that a parse met, none where it met none
 abbrev pub command_of_row : Text → List Row → Option Command

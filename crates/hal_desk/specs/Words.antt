@@ -1,4 +1,6 @@
 -- Which words are a command, and what it says: the table of commands. `crew` is no command here, since it is another call's.
+use Rattle.hal_base.specs.Name.{is_digit}
+use Rattle.hal_base.specs.Numbers.{number_of}
 use Rattle.std.specs.Prelude.{ℕ, ◌+◌, ◌*◌, ◌-◌, ◌&&◌, ◌||◌, ◌==◌, nat_le, not, Bool, false, if◌then◌else◌, List, [], ◌∷◌, length, fold, Option, None, Some, codes}
 use Rattle.std.specs.List.{list_all}
 use Rattle.std.specs.Str.{bytes_eq}
@@ -10,18 +12,11 @@ abbrev pub is_word : List ℕ → Bool
 is_word [] = false
 is_word (b ∷ more) = not (b == 45 || b == 43)
 
-abbrev pub is_digit : ℕ → Bool
-is_digit b = nat_le 48 b && nat_le b 57
-
--- the number that digits write
-abbrev pub value_of : List ℕ → ℕ
-value_of digits = fold (λ n digit. 10 * n + (digit - 48)) 0 digits
-
 -- 1 to 10 digits that write a number from the least to the most
-abbrev pub number_of : ℕ → ℕ → List ℕ → Option ℕ
-number_of least most word =
-    if nat_le 1 (length word) && nat_le (length word) 10 && list_all is_digit word && nat_le least (value_of word) && nat_le (value_of word) most
-    then Some (value_of word) else None
+abbrev pub number_within : ℕ → ℕ → List ℕ → Option ℕ
+number_within least most word =
+    if nat_le 1 (length word) && nat_le (length word) 10 && list_all is_digit word && nat_le least (number_of word) && nat_le (number_of word) most
+    then Some (number_of word) else None
 
 -- the commands of a volume alone
 abbrev pub of_volume : List ℕ → List ℕ → Option Command
@@ -47,7 +42,7 @@ of_count name volume _ _ = None
 abbrev pub row_of : List (List ℕ) → Option Command
 row_of (name ∷ volume ∷ []) = of_volume name volume
 row_of (name ∷ volume ∷ part ∷ []) = of_part name volume part
-row_of (name ∷ volume ∷ count ∷ number ∷ []) = of_count name volume (number_of 1 10000 count) (number_of 0 4294967295 number)
+row_of (name ∷ volume ∷ count ∷ number ∷ []) = of_count name volume (number_within 1 10000 count) (number_within 0 4294967295 number)
 row_of other = None
 
 -- what the words say, none where they are no command

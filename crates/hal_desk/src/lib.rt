@@ -1,4 +1,11 @@
 //! The top calls of haldb: a command's words, a source and a site in, a status and the site out.
+//!
+//! - `desk`: `run`, with the theorem of the program;
+//! - `words`, `grammar`: which words are a command, and how clap parses them;
+//! - `define`, `source`: a definition is checked, and a source is taken in whole;
+//! - `script`, `taker`: the loop over the source, and what takes one line at a time;
+//! - `one_list`, `roots`, `form`, `laws`: one list of roots as a taker, its lines, and that it is a forest's;
+//! - `ending`: how a run ends, and its exit status.
 #![tactic(auto)]
 
 mod define;

@@ -5,7 +5,7 @@ ghost use Rattle.std.specs.String.{string_bytes};
 
 use crate::grammar::parse;
 use clap::ArgMatches;
-use hal_base::{Bytes, Memory};
+use hal_base::{Bytes, Memory, are_digits, number_of};
 use std::alloc::Global;
 
 /// What the words ask for.
@@ -52,7 +52,7 @@ pub enum Command {
 
 ghost use Rattle.clap.specs.Words.{found_of, rows_of, subcommand_rows_of};
 ghost use Rattle.hal_desk.specs.Grammar.{command_in, command_of_row};
-ghost use Rattle.hal_desk.specs.Words.{command_of, is_digit, is_word, number_of, of_count, of_part, of_volume, value_of};
+ghost use Rattle.hal_desk.specs.Words.{command_of, is_word, number_within, of_count, of_part, of_volume};
 
 /// Reads the words after the program's name: none where they are no command.
 pub fn read_command(alloc: Global, words: &[String]) -> Result<Option<Command>, Memory>
@@ -92,8 +92,8 @@ fn of_row(alloc: Global, name: &[u8], row: &ArgMatches<'_>) -> Result<Option<Com
     let Some(number) = row.get_str("number") else {
         return Ok(None);
     };
-    let count = number_of(1, 10_000, count.as_bytes());
-    let number = number_of(0, 4_294_967_295, number.as_bytes());
+    let count = number_within(1, 10_000, count.as_bytes());
+    let number = number_within(0, 4_294_967_295, number.as_bytes());
     of_count(alloc, name, volume.as_bytes(), count, number)
 }
 
@@ -183,40 +183,16 @@ fn of_count(
 }
 
 /// A number from the least to the most, written by 1 to 10 digits.
-fn number_of(least: u32, most: u32, word: &[u8]) -> Option<u32>
-    ensures { result ≡ number_of least most word.now }
+fn number_within(least: u32, most: u32, word: &[u8]) -> Option<u32>
+    ensures { result ≡ number_within least most word.now }
 {
     if word.is_empty() || word.len() > 10 || !are_digits(word) {
         return None;
     }
-    let value = value_of(word);
+    let value = number_of(word);
     if u64::from(least) <= value && value <= u64::from(most) {
         Some(value as u32)
     } else {
         None
     }
-}
-
-fn are_digits(word: &[u8]) -> bool
-    ensures { result ≡ list_all is_digit word.now }
-{
-    word.iter().all(|byte| is_digit(*byte))
-}
-
-fn is_digit(byte: u8) -> bool
-    ensures { result ≡ is_digit byte }
-{
-    48 <= byte && byte <= 57
-}
-
-/// The number that digits write; one that has more than 32 bits as the least such number.
-fn value_of(digits: &[u8]) -> u64
-    requires { IsTrue (list_all is_digit digits.now) }
-    ensures { result ≡ min (value_of digits.now) 4294967296 }
-{
-    let mut value: u64 = 0;
-    for digit in digits {
-        value = (10 * value + (*digit - b'0') as u64).min(4_294_967_296);
-    }
-    value
 }

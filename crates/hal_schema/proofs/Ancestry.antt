@@ -9,7 +9,7 @@ use Rattle.std.proofs.lemmas.Bool.Decides.{nat_tests}
 use Rattle.std.specs.Prelude.{option_and_then}
 use Rattle.std.specs.Prelude.{sum_by}
 use Rattle.hal_schema.specs.declared.schema.SegType.{SegType}
-use Rattle.hal_schema.specs.SegType.{type_of, key_bytes, path_key_bytes, parent_of, ancestry_within, ancestry, level_of}
+use Rattle.hal_schema.specs.SegType.{type_of, key_bytes, path_key_bytes, parent_code, ancestry_within, ancestry, level_of}
 use Rattle.hal_schema.specs.Lawful.{parent_is_before, parents_are_before}
 
 -- a test of each place and item holds at each place
@@ -36,7 +36,7 @@ before_is_lower c (Some q) p h e =
     let b = (and_parts (nat_lt 0 q) (nat_lt q c) h).1 in
     (grind (arith, nat_tests), grind (arith, nat_tests))
 
-lower_at : (types : List SegType) → IsTrue (parents_are_before types) → (c p : ℕ) → parent_of types c ≡ Some p → (0 < p) × (p < c)
+lower_at : (types : List SegType) → IsTrue (parents_are_before types) → (c p : ℕ) → parent_code types c ≡ Some p → (0 < p) × (p < c)
 lower_at types h zero p e = cc
 lower_at types h (suc k) p e = by (slice_get types k) refl e
   where
@@ -46,7 +46,7 @@ lower_at types h (suc k) p e = by (slice_get types k) refl e
         let m : 1 + k ≡ suc k = omega arith in
         before_is_lower (suc k) t.parent p (ap (λ j. parent_is_before j t.parent) (sym m) ∙ all_places (λ t. parent_is_before t.0 t.1.parent) types 1 k t h g) f
 
-pub types_lower : (types : List SegType) → IsTrue (parents_are_before types) → IsLower (parent_of types)
+pub types_lower : (types : List SegType) → IsTrue (parents_are_before types) → IsLower (parent_code types)
 types_lower types h = record { above = λ c p e. (lower_at types h c p e).0; below = λ c p e. (lower_at types h c p e).1 }
 
 -- more steps than the code give the same
@@ -77,16 +77,16 @@ ancestry-root parent zero z e = absurd (omega arith)
 ancestry-root parent (suc c) z e = ap (λ o. suc c ∷ option_map_or (ancestry_within c parent) o []) e
 
 -- the rest of the way up from a type whose parent is known
-pub level-child : (types : List SegType) → IsTrue (parents_are_before types) → (c p : ℕ) → 0 < c → parent_of types c ≡ Some p → level_of types c ≡ level_of types p + 1
-level-child types h c p z e = ap length (ancestry-child (parent_of types) (types_lower types h) c p z e) ∙ (let r : suc (level_of types p) ≡ level_of types p + 1 = omega arith in r)
+pub level-child : (types : List SegType) → IsTrue (parents_are_before types) → (c p : ℕ) → 0 < c → parent_code types c ≡ Some p → level_of types c ≡ level_of types p + 1
+level-child types h c p z e = ap length (ancestry-child (parent_code types) (types_lower types h) c p z e) ∙ (let r : suc (level_of types p) ≡ level_of types p + 1 = omega arith in r)
 
-pub level-root : (types : List SegType) → (c : ℕ) → 0 < c → parent_of types c ≡ None → level_of types c ≡ 1
-level-root types c z e = ap length (ancestry-root (parent_of types) c z e)
+pub level-root : (types : List SegType) → (c : ℕ) → 0 < c → parent_code types c ≡ None → level_of types c ≡ 1
+level-root types c z e = ap length (ancestry-root (parent_code types) c z e)
 
 -- the parent of the type that was read at a code
-pub parent_of-read : (types : List SegType) (c : ℕ) (t : SegType) → 0 < c → c ≤ length types → t ≡ get_or types (c - 1) t → parent_of types c ≡ t.parent
-parent_of-read types zero t z l e = absurd (omega arith)
-parent_of-read types (suc k) t z l e =
+pub parent_code-read : (types : List SegType) (c : ℕ) (t : SegType) → 0 < c → c ≤ length types → t ≡ get_or types (c - 1) t → parent_code types c ≡ t.parent
+parent_code-read types zero t z l e = absurd (omega arith)
+parent_code-read types (suc k) t z l e =
     let m : suc k - 1 ≡ k = omega arith in
     let e' : t ≡ get_or types k t = e ∙ ap (λ j. get_or types j t) m in
     let g : slice_get types k ≡ Some t = slice_get_read types (length types) k t refl (omega arith) e' in
@@ -102,26 +102,26 @@ short (suc n) parent c = above n parent (parent c) (short n parent)
     above n parent (Some p) h = let s = h p in omega arith
 
 pub level-short : (types : List SegType) (c : ℕ) → level_of types c ≤ c
-level-short types c = short c (parent_of types) c
+level-short types c = short c (parent_code types) c
 
 -- the keys above a type's own
 abbrev pub path_above : List SegType → ℕ → ℕ
-path_above types code = option_map_or (path_key_bytes types) (parent_of types code) 0
+path_above types code = option_map_or (path_key_bytes types) (parent_code types code) 0
 
 sum_first : {X : Type 0} (f : X → ℕ) (x : X) (xs : List X) → sum_by f (x ∷ xs) ≡ f x + sum_by f xs
 sum_first f x xs = sum_by-append f (x ∷ []) xs ∙ (let e : sum_by f (x ∷ []) + sum_by f xs ≡ f x + sum_by f xs = omega arith in e)
 
-pub path-child : (types : List SegType) → IsTrue (parents_are_before types) → (c p : ℕ) → 0 < c → parent_of types c ≡ Some p → path_key_bytes types c ≡ key_bytes types c + path_key_bytes types p
-path-child types h c p z e = ap (sum_by (key_bytes types)) (ancestry-child (parent_of types) (types_lower types h) c p z e) ∙ sum_first (key_bytes types) c (ancestry (parent_of types) p)
+pub path-child : (types : List SegType) → IsTrue (parents_are_before types) → (c p : ℕ) → 0 < c → parent_code types c ≡ Some p → path_key_bytes types c ≡ key_bytes types c + path_key_bytes types p
+path-child types h c p z e = ap (sum_by (key_bytes types)) (ancestry-child (parent_code types) (types_lower types h) c p z e) ∙ sum_first (key_bytes types) c (ancestry (parent_code types) p)
 
-pub path-root : (types : List SegType) → (c : ℕ) → 0 < c → parent_of types c ≡ None → path_key_bytes types c ≡ key_bytes types c + 0
-path-root types c z e = ap (sum_by (key_bytes types)) (ancestry-root (parent_of types) c z e) ∙ sum_first (key_bytes types) c []
+pub path-root : (types : List SegType) → (c : ℕ) → 0 < c → parent_code types c ≡ None → path_key_bytes types c ≡ key_bytes types c + 0
+path-root types c z e = ap (sum_by (key_bytes types)) (ancestry-root (parent_code types) c z e) ∙ sum_first (key_bytes types) c []
 
-pub above-child : (types : List SegType) (c p : ℕ) → parent_of types c ≡ Some p → path_above types c ≡ path_key_bytes types p
+pub above-child : (types : List SegType) (c p : ℕ) → parent_code types c ≡ Some p → path_above types c ≡ path_key_bytes types p
 above-child types c p e = ap (λ o. option_map_or (path_key_bytes types) o 0) e
 
 pub path-above : (types : List SegType) → IsTrue (parents_are_before types) → (c : ℕ) → 0 < c → key_bytes types c + path_above types c ≡ path_key_bytes types c
-path-above types h c z = by (parent_of types c) (λ e. sym (path-root types c z e)) (λ p e. sym (path-child types h c p z e))
+path-above types h c z = by (parent_code types c) (λ e. sym (path-root types c z e)) (λ p e. sym (path-child types h c p z e))
   where
     by : (o : Option ℕ) → (o ≡ None → key_bytes types c + 0 ≡ path_key_bytes types c) → ((p : ℕ) → o ≡ Some p → key_bytes types c + path_key_bytes types p ≡ path_key_bytes types c) → key_bytes types c + option_map_or (path_key_bytes types) o 0 ≡ path_key_bytes types c
     by None root child = root refl
@@ -136,11 +136,11 @@ pub key_bytes-at : (types : List SegType) (c : ℕ) (d : SegType) → 0 < c → 
 key_bytes-at types c d z l = ap (λ o. option_map_or (λ k. k.bytes) (option_and_then (λ t. t.key) o) 0) (type_of-at types c d z l)
 
 -- one step up, where the code isn't the one that is looked for
-pub above_like : (types : List SegType) → IsTrue (parents_are_before types) → (c p target : ℕ) → 0 < c → parent_of types c ≡ Some p → (c == target) ≡ false
-    → list_any (λ code. code == target) (ancestry (parent_of types) p) ≡ list_any (λ code. code == target) (ancestry (parent_of types) c)
+pub above_like : (types : List SegType) → IsTrue (parents_are_before types) → (c p target : ℕ) → 0 < c → parent_code types c ≡ Some p → (c == target) ≡ false
+    → list_any (λ code. code == target) (ancestry (parent_code types) p) ≡ list_any (λ code. code == target) (ancestry (parent_code types) c)
 above_like types h c p target z e other =
-    sym (ap (list_any (λ code. code == target)) (ancestry-child (parent_of types) (types_lower types h) c p z e) ∙ ap (λ b. b || list_any (λ code. code == target) (ancestry (parent_of types) p)) other)
+    sym (ap (list_any (λ code. code == target)) (ancestry-child (parent_code types) (types_lower types h) c p z e) ∙ ap (λ b. b || list_any (λ code. code == target) (ancestry (parent_code types) p)) other)
 
-pub root_unlike : (types : List SegType) → (c target : ℕ) → 0 < c → parent_of types c ≡ None → (c == target) ≡ false → list_any (λ code. code == target) (ancestry (parent_of types) c) ≡ false
+pub root_unlike : (types : List SegType) → (c target : ℕ) → 0 < c → parent_code types c ≡ None → (c == target) ≡ false → list_any (λ code. code == target) (ancestry (parent_code types) c) ≡ false
 root_unlike types c target z e other =
-    ap (list_any (λ code. code == target)) (ancestry-root (parent_of types) c z e) ∙ ap (λ b. b || false) other
+    ap (list_any (λ code. code == target)) (ancestry-root (parent_code types) c z e) ∙ ap (λ b. b || false) other

@@ -32,7 +32,7 @@ fits_like n f g free same fits =
     let within : is_within n g.start g.bytes ≡ true = sym (ap (λ (b : Bool). cond b (nat_le g.start 65535 && nat_le g.bytes 65535) (is_within n g.start g.bytes)) other) ∙ fits in
     ap (λ s. is_within n s f.bytes) start ∙ ap (λ b. is_within n g.start b) bytes ∙ within
 
-among_fits : (n : ℕ) (f : Field) (fields : List Field) → not (is_key_portion f.name) ≡ true → list_any (same_field f) fields ≡ true → list_all (field_fits n) fields ≡ true → is_within n f.start f.bytes ≡ true
+pub among_fits : (n : ℕ) (f : Field) (fields : List Field) → not (is_key_portion f.name) ≡ true → list_any (same_field f) fields ≡ true → list_all (field_fits n) fields ≡ true → is_within n f.start f.bytes ≡ true
 among_fits n f [] free any all = cc
 among_fits n f (g ∷ fields) free any all =
     elim (or_cases _ _ any) [
@@ -67,9 +67,9 @@ source_known types i h =
     let b = and_parts _ _ a.0 in
     source_from _ (type_of types i.source) b.1
 
-fields_of : (types : List SegType) (c : ℕ) (t : SegType) → fields_fit types ≡ true → type_of types c ≡ Some t → list_all (field_fits t.bytes) t.fields ≡ true
-fields_of types zero t h e = cc
-fields_of types (suc k) t h e = (and_parts _ _ (all_at (λ (t : SegType). nat_le 1 t.bytes && nat_le t.bytes 2000 && list_all (field_fits t.bytes) t.fields) types k t h e)).1
+fields_at : (types : List SegType) (c : ℕ) (t : SegType) → fields_fit types ≡ true → type_of types c ≡ Some t → list_all (field_fits t.bytes) t.fields ≡ true
+fields_at types zero t h e = cc
+fields_at types (suc k) t h e = (and_parts _ _ (all_at (λ (t : SegType). nat_le 1 t.bytes && nat_le t.bytes 2000 && list_all (field_fits t.bytes) t.fields) types k t h e)).1
 
 index_at : (types : List SegType) (indexes : List IndexDef) (k : ℕ) (i : IndexDef) → indexes_are_kept types indexes ≡ true → slice_get indexes k ≡ Some i → index_is_kept types i ≡ true
 index_at types indexes k i h e = all_at (index_is_kept types) indexes k i (and_parts _ _ h).0 e
@@ -80,7 +80,7 @@ search_within types indexes k i n fits kept at long =
     let one = index_at types indexes k i kept at in
     let t = source_known types i one in
     let parts = index_parts types i t.0 one t.1 in
-    let fields = fields_of types i.source t.0 fits t.1 in
+    let fields = fields_at types i.source t.0 fits t.1 in
     subst (λ m. list_all (λ f. is_within m f.start f.bytes) i.search ≡ true) (sym (long t.0 t.1))
     (all_weaker (λ f. not (is_key_portion f.name) && list_any (same_field f) t.0.fields) (λ f. is_within t.0.bytes f.start f.bytes)
     (λ f h. among_fits t.0.bytes f t.0.fields (and_parts _ _ h).0 (and_parts _ _ h).1 fields) i.search parts.search)

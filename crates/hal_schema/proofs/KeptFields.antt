@@ -18,7 +18,7 @@ use Rattle.hal_schema.specs.declared.schema.SegType.{SegType}
 use Rattle.hal_schema.specs.declared.schema.IndexDef.{IndexDef}
 use Rattle.hal_schema.specs.Lawful.{all_differ, field_names, field_names_differ}
 use Rattle.hal_schema.specs.Raw.{put_in_order, in_order, target_below, types_of, seg_type, field_of, indexes_of, index_of, code_named}
-use Rattle.hal_schema.specs.Rules.{same_name, names_twice, fields_of, xdflds_of, field_names as raw_names, names_repeated}
+use Rattle.hal_schema.specs.Rules.{same_name, names_twice, named_fields, xdflds_of, field_names as raw_names, names_repeated}
 use Rattle.hal_schema.proofs.Differ.{Picks, differ-behind}
 use Rattle.hal_schema.proofs.KeptTypes.{nil_parts}
 use Rattle.hal_schema.proofs.KeptNames.{index_found, differ_from_twice, differ-map, bytes_turn}
@@ -96,7 +96,7 @@ map-behind f (x ∷ xs) ys = ap (λ l. f x ∷ l) (map-behind f xs ys)
 
 only_names : (indexes : List RawIndex) (t : RawType) → map (λ (n : Named). n.name) (raw_names indexes t) ≡ map (λ (f : RawField). f.name) t.fields ++ map (λ (i : RawIndex). i.xdfld) (filter (λ (i : RawIndex). bytes_eq i.target t.name) indexes)
 only_names indexes t =
-    map-behind (λ (n : Named). n.name) (fields_of t.fields) (xdflds_of indexes t.name)
+    map-behind (λ (n : Named). n.name) (named_fields t.fields) (xdflds_of indexes t.name)
     ∙ ap (λ l. l ++ map (λ (n : Named). n.name) (xdflds_of indexes t.name)) (map-map (λ (n : Named). n.name) _ t.fields)
     ∙ ap (λ l. map (λ (f : RawField). f.name) t.fields ++ l) (map-map (λ (n : Named). n.name) _ (filter (λ (i : RawIndex). bytes_eq i.target t.name) indexes))
 

@@ -21,7 +21,7 @@ use Rattle.hal_schema.specs.declared.schema.KeyField.{KeyField}
 use Rattle.hal_schema.specs.declared.schema.SegType.{SegType}
 use Rattle.hal_schema.specs.declared.schema.PartDef.{PartDef}
 use Rattle.hal_schema.specs.Keys.{key_cmp}
-use Rattle.hal_schema.specs.Lawful.{keys_are_fields, root_key_is_unique, highs_rise, all_rise, is_key_portion}
+use Rattle.hal_schema.specs.Lawful.{keys_are_fields, root_key_is_unique, highs_rise, all_rise, is_key_portion, is_key_field}
 use Rattle.hal_schema.specs.Places.{partition, statement, twice, when, later}
 use Rattle.hal_schema.specs.Raw.{types_of, seg_type, field_of, key_field, is_sequence_field, parts_of, part_of, high_below, in_order}
 use Rattle.hal_schema.specs.Rules.{same_high, sequence_broken, both_sequence, root_key_broken, highs_broken, high_is_long}
@@ -33,20 +33,17 @@ use Rattle.hal_schema.proofs.Ordered.{all-order, rise-put}
 
 -- ---- sequence fields
 
-abbrev stands_at : KeyField → Field → Bool
-stands_at k g = not (is_key_portion g.name) && g.start == k.start && g.bytes == k.bytes
-
 abbrev key_of_field : RawField → KeyField
 key_of_field f = record { start = f.start; bytes = f.bytes; unique = f.seq == 1 }
 
 abbrev key_ok : List Field → KeyField → Bool
-key_ok fields k = nat_le k.bytes 100 && list_any (stands_at k) fields
+key_ok fields k = nat_le k.bytes 100 && list_any (is_key_field k) fields
 
 one_more : (g : Field) (fields : List Field) (o : Option KeyField) → option_map_or (key_ok fields) o true ≡ true → option_map_or (key_ok (g ∷ fields)) o true ≡ true
 one_more g fields None h = refl
 one_more g fields (Some k) h =
-    let p = and_parts (nat_le k.bytes 100) (list_any (stands_at k) fields) h in
-    and_from (nat_le k.bytes 100) (list_any (stands_at k) (g ∷ fields)) p.0 (or_right (stands_at k g) (list_any (stands_at k) fields) p.1)
+    let p = and_parts (nat_le k.bytes 100) (list_any (is_key_field k) fields) h in
+    and_from (nat_le k.bytes 100) (list_any (is_key_field k) (g ∷ fields)) p.0 (or_right (is_key_field k g) (list_any (is_key_field k) fields) p.1)
 
 abbrev is_bad : RawField → Bool
 is_bad f = nat_lt 100 f.bytes || is_key_portion f.name
@@ -54,8 +51,8 @@ is_bad f = nat_lt 100 f.bytes || is_key_portion f.name
 here_ok : (f : RawField) (fields : List Field) → is_bad f ≡ false → key_ok (field_of f ∷ fields) (key_of_field f) ≡ true
 here_ok f fields good =
     let p = or_parts (nat_lt 100 f.bytes) (is_key_portion f.name) good in
-    let at : stands_at (key_of_field f) (field_of f) ≡ true = and_from _ _ (and_from _ _ (not_from_false _ p.1) (eq-eqb f.start f.start refl)) (eq-eqb f.bytes f.bytes refl) in
-    and_from (nat_le f.bytes 100) (list_any (stands_at (key_of_field f)) (field_of f ∷ fields)) (le-leb f.bytes 100 (ltb-false 100 f.bytes p.0)) (or_left (stands_at (key_of_field f) (field_of f)) (list_any (stands_at (key_of_field f)) fields) at)
+    let at : is_key_field (key_of_field f) (field_of f) ≡ true = and_from _ _ (and_from _ _ (eq-eqb f.start f.start refl) (eq-eqb f.bytes f.bytes refl)) (not_from_false _ p.1) in
+    and_from (nat_le f.bytes 100) (list_any (is_key_field (key_of_field f)) (field_of f ∷ fields)) (le-leb f.bytes 100 (ltb-false 100 f.bytes p.0)) (or_left (is_key_field (key_of_field f) (field_of f)) (list_any (is_key_field (key_of_field f)) fields) at)
 
 key_found : (fields : List RawField) → list_all (λ f. not (is_sequence_field f && is_bad f)) fields ≡ true → option_map_or (key_ok (map field_of fields)) (key_field fields) true ≡ true
 key_found [] h = refl

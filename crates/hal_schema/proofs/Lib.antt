@@ -14,3 +14,4 @@ pub mod KeptNames
 pub mod Differ
 pub mod KeptFields
 pub mod KeptPlain
+pub mod Facts

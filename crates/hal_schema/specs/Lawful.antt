@@ -1,5 +1,5 @@
 -- What a checked definition keeps, as tests over its parts.
-use Rattle.std.specs.Prelude.{ℕ, ◌+◌, ◌==◌, nat_lt, nat_le, Bool, true, false, ◌&&◌, ◌||◌, not, List, [], ◌∷◌, ◌++◌, length, Option, None, Some, is_some, map, filter, sum_by, option_and_then, if◌then◌else◌}
+use Rattle.std.specs.Prelude.{ℕ, ◌+◌, ◌==◌, nat_lt, nat_le, Bool, true, false, ◌&&◌, ◌||◌, not, List, [], ◌∷◌, ◌++◌, length, Option, None, Some, is_some, map, filter, option_and_then, if◌then◌else◌}
 use Rattle.std.specs.List.{list_all, list_any, slice_get, enumerate_from}
 use Rattle.std.specs.Option.{option_map_or}
 use Rattle.std.specs.Ordering.{is_lt}
@@ -7,10 +7,11 @@ use Rattle.hal_base.specs.Name.{is_name, is_field_name}
 use Rattle.hal_schema.specs.Keys.{key_cmp}
 use Rattle.std.specs.Str.{bytes_eq}
 use Rattle.hal_schema.specs.declared.schema.Field.{Field}
+use Rattle.hal_schema.specs.declared.schema.KeyField.{KeyField}
 use Rattle.hal_schema.specs.declared.schema.SegType.{SegType}
 use Rattle.hal_schema.specs.declared.schema.IndexDef.{IndexDef}
 use Rattle.hal_schema.specs.declared.schema.PartDef.{PartDef}
-use Rattle.hal_schema.specs.SegType.{type_of, parent_of, ancestry, level_of, key_bytes, path_key_bytes}
+use Rattle.hal_schema.specs.SegType.{type_of, parent_code, ancestry, level_of, key_bytes, path_key_bytes, entry_bytes}
 
 -- no two of the list are the same
 abbrev pub all_differ : {X : Type 0} → (X → X → Bool) → List X → Bool
@@ -72,10 +73,13 @@ field_fits all f = if is_key_portion f.name then nat_le f.start 65535 && nat_le 
 abbrev pub fields_fit : List SegType → Bool
 fields_fit types = list_all (λ t. nat_le 1 t.bytes && nat_le t.bytes 2000 && list_all (field_fits t.bytes) t.fields) types
 
+-- this field is the sequence field: it stands at its place, and is no portion of the concatenated key
+abbrev pub is_key_field : KeyField → Field → Bool
+is_key_field key f = f.start == key.start && f.bytes == key.bytes && not (is_key_portion f.name)
+
 -- a sequence field is a field of its type
 abbrev pub keys_are_fields : List SegType → Bool
-keys_are_fields types =
-    list_all (λ t. option_map_or (λ k. nat_le k.bytes 100 && list_any (λ f. not (is_key_portion f.name) && f.start == k.start && f.bytes == k.bytes) t.fields) t.key true) types
+keys_are_fields types = list_all (λ t. option_map_or (λ k. nat_le k.bytes 100 && list_any (is_key_field k) t.fields) t.key true) types
 
 abbrev pub root_key_is_unique : List SegType → Bool
 root_key_is_unique types = option_map_or (λ k. k.unique) (option_and_then (λ t. t.key) (type_of types 1)) false
@@ -96,8 +100,8 @@ fields_are_kept types i t =
 -- the source is the target or below it
 abbrev pub index_is_kept : List SegType → IndexDef → Bool
 index_is_kept types i =
-    list_any (λ code. code == i.target) (ancestry (parent_of types) i.source) && nat_le 1 (length i.search) && nat_le (length i.search) 5
-    && option_map_or (fields_are_kept types i) (type_of types i.source) false && nat_le (sum_by (λ f. f.bytes) i.search + sum_by (λ f. f.bytes) i.subseq) 240
+    list_any (λ code. code == i.target) (ancestry (parent_code types) i.source) && nat_le 1 (length i.search) && nat_le (length i.search) 5
+    && option_map_or (fields_are_kept types i) (type_of types i.source) false && nat_le (entry_bytes i) 240
 
 abbrev pub indexes_are_kept : List SegType → List IndexDef → Bool
 indexes_are_kept types indexes = list_all (index_is_kept types) indexes && all_rise (λ i j. nat_le i.target j.target) indexes

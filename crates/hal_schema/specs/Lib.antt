@@ -1,5 +1,6 @@
 pub mod Built
 pub mod Entry
+pub mod Facts
 pub mod Faults
 pub mod First
 pub mod Forest
@@ -8,6 +9,7 @@ pub mod Keeps
 pub mod Keys
 pub mod Lawful
 pub mod Named
+pub mod Paths
 pub mod Places
 pub mod Raw
 pub mod Roots

@@ -1,10 +1,10 @@
--- Rows of a forest, their paths and keys. A forest is one list of rows.
-use Rattle.std.specs.Prelude.{ℕ, zero, suc, ◌==◌, Bool, ◌&&◌, List, [], ◌∷◌, ◌++◌, Option, option_and_then, find, flat_map}
+-- Rows of a forest: their names, parents and keys. A forest is one list of rows.
+use Rattle.std.specs.Prelude.{ℕ, ◌==◌, Bool, true, false, ◌&&◌, List, [], Option, None, Some, option_and_then, find, is_none}
 use Rattle.std.specs.Option.{option_map_or}
 use Rattle.hal_base.specs.declared.place.Ilk.{Ilk}
 use Rattle.hal_schema.specs.declared.row.Row.{Row}
 use Rattle.hal_schema.specs.declared.schema.SegType.{SegType}
-use Rattle.hal_schema.specs.SegType.{type_of, portion}
+use Rattle.hal_schema.specs.SegType.{type_of, level_of, portion}
 
 abbrev pub same_name : Ilk → Ilk → Bool
 same_name a b = a.addr == b.addr && a.part == b.part && a.number == b.number
@@ -12,19 +12,26 @@ same_name a b = a.addr == b.addr && a.part == b.part && a.number == b.number
 abbrev pub row_named : List Row → Ilk → Option Row
 row_named rows name = find (λ row. same_name row.name name) rows
 
--- the row's root, the rows between, and the row itself: at most so many of them
-abbrev pub path_within : ℕ → List Row → Row → List Row
-path_within zero rows row = []
-path_within (suc most) rows row = option_map_or (path_within most rows) (option_and_then (row_named rows) row.parent) [] ++ row ∷ []
+-- no row has this name
+abbrev pub is_new_name : List Row → Ilk → Bool
+is_new_name rows name = is_none (row_named rows name)
 
--- all of them, since a parent's code is lower
-abbrev pub path_of : List Row → Row → List Row
-path_of rows row = path_within row.code rows row
+abbrev pub is_parent : Row → Row → Bool
+is_parent above row = option_map_or (same_name above.name) row.parent false
+
+abbrev pub same_parent : Option Ilk → Option Ilk → Bool
+same_parent None None = true
+same_parent None (Some b) = false
+same_parent (Some a) None = false
+same_parent (Some a) (Some b) = same_name a b
+
+-- twins are rows of one type under one parent; all roots are twins
+abbrev pub are_twins : Row → Row → Bool
+are_twins a b = a.code == b.code && same_parent a.parent b.parent
+
+abbrev pub row_level : List SegType → Row → ℕ
+row_level types row = level_of types row.code
 
 -- the sequence field, empty where the type has none
-abbrev pub key_of : List SegType → Row → List ℕ
-key_of types row = option_map_or (λ k. portion k.start k.bytes row.content) (option_and_then (λ t. t.key) (type_of types row.code)) []
-
--- the sequence fields along the row's path
-abbrev pub concatenated_key : List SegType → List Row → Row → List ℕ
-concatenated_key types rows row = flat_map (key_of types) (path_of rows row)
+abbrev pub row_key : List SegType → Row → List ℕ
+row_key types row = option_map_or (λ k. portion k.start k.bytes row.content) (option_and_then (λ t. t.key) (type_of types row.code)) []

@@ -46,14 +46,14 @@ index_name i = record { name = i.name; place = statement i.line }
 abbrev pub part_name : RawPart → Named
 part_name p = record { name = p.name; place = partition p.place }
 
-abbrev pub fields_of : List RawField → List Named
-fields_of fields = map (λ f. record { name = f.name; place = statement f.line }) fields
+abbrev pub named_fields : List RawField → List Named
+named_fields fields = map (λ f. record { name = f.name; place = statement f.line }) fields
 
 abbrev pub xdflds_of : List RawIndex → List ℕ → List Named
 xdflds_of indexes target = map (λ i. record { name = i.xdfld; place = statement i.line }) (filter (λ i. bytes_eq i.target target) indexes)
 
 abbrev pub field_names : List RawIndex → RawType → List Named
-field_names indexes t = fields_of t.fields ++ xdflds_of indexes t.name
+field_names indexes t = named_fields t.fields ++ xdflds_of indexes t.name
 
 abbrev pub same_number : RawPart → RawPart → Bool
 same_number p q = p.number == q.number

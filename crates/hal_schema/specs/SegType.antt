@@ -2,6 +2,7 @@
 use Rattle.std.specs.Prelude.{ℕ, zero, suc, ◌+◌, ◌-◌, ◌==◌, Bool, false, List, [], ◌∷◌, length, Option, None, option_and_then, slice_range, sum_by}
 use Rattle.std.specs.List.{slice_get}
 use Rattle.std.specs.Option.{option_map_or}
+use Rattle.hal_schema.specs.declared.schema.IndexDef.{IndexDef}
 use Rattle.hal_schema.specs.declared.schema.SegType.{SegType}
 
 abbrev pub type_of : List SegType → ℕ → Option SegType
@@ -9,8 +10,12 @@ type_of types zero = None
 type_of types (suc place) = slice_get types place
 
 -- the code of a type's parent; the root type has none
-abbrev pub parent_of : List SegType → ℕ → Option ℕ
-parent_of types code = option_and_then (λ t. t.parent) (type_of types code)
+abbrev pub parent_code : List SegType → ℕ → Option ℕ
+parent_code types code = option_and_then (λ t. t.parent) (type_of types code)
+
+-- whether the second type's parent has the first code
+abbrev pub is_parent_code : List SegType → ℕ → ℕ → Bool
+is_parent_code types above code = option_map_or (λ parent. parent == above) (parent_code types code) false
 
 -- a code, the code of its parent, and so on up to the root type: at most so many of them
 abbrev pub ancestry_within : ℕ → (ℕ → Option ℕ) → ℕ → List ℕ
@@ -23,7 +28,7 @@ ancestry parent code = ancestry_within code parent code
 
 -- 1 for the root type, and one more than its parent's for every other
 abbrev pub level_of : List SegType → ℕ → ℕ
-level_of types code = length (ancestry (parent_of types) code)
+level_of types code = length (ancestry (parent_code types) code)
 
 -- whether a type's parent has this code
 abbrev pub is_child : ℕ → SegType → Bool
@@ -39,4 +44,12 @@ key_bytes types code = option_map_or (λ k. k.bytes) (option_and_then (λ t. t.k
 
 -- how long the concatenated key of a row of a type is
 abbrev pub path_key_bytes : List SegType → ℕ → ℕ
-path_key_bytes types code = sum_by (key_bytes types) (ancestry (parent_of types) code)
+path_key_bytes types code = sum_by (key_bytes types) (ancestry (parent_code types) code)
+
+-- how long the search fields of an index are, with which an entry's key begins
+abbrev pub search_bytes : IndexDef → ℕ
+search_bytes index = sum_by (λ f. f.bytes) index.search
+
+-- how long an entry's key is
+abbrev pub entry_bytes : IndexDef → ℕ
+entry_bytes index = search_bytes index + sum_by (λ f. f.bytes) index.subseq

@@ -1,5 +1,5 @@
 ghost use Rattle.std.specs.Prelude.{◌≡◌, ◌<◌, ◌≤◌, IsTrue, length, count_by, IsSomeAnd};
-ghost use Rattle.hal_schema.specs.SegType.{is_child, level_of, parent_of, type_of};
+ghost use Rattle.hal_schema.specs.SegType.{is_child, level_of, parent_code, type_of};
 ghost use Rattle.hal_schema.specs.Lawful.{parents_are_before};
 
 use crate::{Schema, SegType};
@@ -50,7 +50,7 @@ fn level_in(types: &[SegType], code: u8) -> u8
 pub(crate) fn parent_code(types: &[SegType], code: u8) -> Option<u8>
     requires above { 0 < code }
     requires known { code ≤ length types.now }
-    ensures { result ≡ parent_of types.now code }
+    ensures { result ≡ parent_code types.now code }
 {
     types[code as usize - 1].parent
 }

@@ -1,4 +1,5 @@
 -- Each partition that is read has a name that is no `/CK` name.
+use Rattle.hal_base.specs.Reading.{◌>>=◌}
 use Rattle.std.proofs.Common.{◌≡◌, ℕ, Bool, true, false, cond, List, [], ◌∷◌, map, Option, Some, None, Result, Ok, Err, IfOk, refl, subst, codes}
 use Rattle.std.specs.List.{list_all}
 use Rattle.std.specs.Str.{bytes_eq}
@@ -11,7 +12,7 @@ use Rattle.hal_schema.specs.Named.{parts_are_named}
 use Rattle.dbd_reader.specs.declared.fault.TextFault.{TextFault}
 use Rattle.dbd_reader.specs.declared.fault.TextFault.TheVariants.{Rule, Memory}
 use Rattle.dbd_reader.specs.Definition.{Says}
-use Rattle.partition_reader.specs.Values.{◌>>=◌, needed, name_in, number_in, high_in, optional_number, number_or_zero}
+use Rattle.partition_reader.specs.Values.{needed, name_in, number_in, high_in, optional_number, number_or_zero}
 use Rattle.partition_reader.specs.Tables.{known, is_part_key, is_file_key, part_of, part_in, next_place, parts_from, tables_in, parts_of}
 use Rattle.partition_reader.specs.Partitions.{toml_of, parts_or, partitions_of}
 

@@ -1,4 +1,5 @@
 -- Reading one partition after the other, as the loop over the tables does.
+use Rattle.hal_base.specs.Reading.{◌>>=◌}
 use Rattle.std.proofs.Common.{◌≡◌, ℕ, ◌+◌, ◌<◌, List, [], ◌∷◌, ◌++◌, length, get_or, drop, Result, Ok, Err, refl, sym, ap, ◌∙◌, append_assoc}
 use Rattle.std.proofs.lemmas.List.{append-nil, drop_more}
 use Rattle.toml.specs.declared.value.Value.{Value}
@@ -8,7 +9,6 @@ use Rattle.hal_schema.specs.declared.raw.RawPart.{RawPart}
 use Rattle.dbd_reader.specs.declared.fault.TextFault.{TextFault}
 use Rattle.dbd_reader.specs.declared.fault.TextFault.TheVariants as faults
 use Rattle.dbd_reader.specs.Definition.{Says}
-use Rattle.partition_reader.specs.Values.{◌>>=◌}
 use Rattle.partition_reader.specs.Tables.{next_place, part_in, parts_from}
 
 -- what was read before, and what is still read

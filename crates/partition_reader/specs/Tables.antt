@@ -1,5 +1,6 @@
 -- What the tables of a partition file say. Of one table the rules are judged in their order: 22 for a key that is
 -- absent, 23 for a value, 24 for a key that isn't known.
+use Rattle.hal_base.specs.Reading.{◌>>=◌}
 use Rattle.std.specs.Prelude.{ℕ, ◌+◌, ◌&&◌, ◌||◌, Bool, true, min, if◌then◌else◌, List, [], ◌∷◌, Option, Some, None, Result, Ok, Err, codes}
 use Rattle.std.specs.Str.{bytes_eq}
 use Rattle.toml.specs.Data.{Data, array, table, Items, no_items, item, Members, no_members, member, get_member}
@@ -8,7 +9,7 @@ use Rattle.hal_schema.specs.declared.raw.RawPart.{RawPart}
 use Rattle.hal_schema.specs.declared.raw.RawParts.{RawParts}
 use Rattle.dbd_reader.specs.declared.fault.TextFault.{TextFault}
 use Rattle.dbd_reader.specs.declared.fault.TextFault.TheVariants.{Rule}
-use Rattle.partition_reader.specs.Values.{◌>>=◌, needed, number_in, number_or_zero, optional_number, name_in, high_in}
+use Rattle.partition_reader.specs.Values.{needed, number_in, number_or_zero, optional_number, name_in, high_in}
 
 abbrev pub all_keys : (List ℕ → Bool) → Members → Bool
 all_keys test no_members = true

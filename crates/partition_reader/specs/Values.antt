@@ -1,6 +1,7 @@
 -- What the values of a partition file say, each in the table of a place: 0 is the file itself, the tables of
 -- partitions count from 1. Rule 22 is that of a key that is absent and has no default, 23 that of a value that
 -- isn't readable.
+use Rattle.hal_base.specs.Reading.{◌>>=◌}
 use Rattle.std.specs.Prelude.{ℕ, ◌-◌, ◌&&◌, ◌==◌, Bool, false, nat_le, nat_lt, pos, if◌then◌else◌, List, ◌∷◌, length, map, take, drop, slice_index, Option, Some, None, Result, Ok, Err}
 use Rattle.std.specs.List.{list_all}
 use Rattle.hex.specs.Hex.{decode_of}
@@ -9,11 +10,6 @@ use Rattle.toml.specs.Data.{Data, string, integer, Members, get_member}
 use Rattle.hal_base.specs.Name.{is_name, upper}
 use Rattle.dbd_reader.specs.declared.fault.TextFault.{TextFault}
 use Rattle.dbd_reader.specs.declared.fault.TextFault.TheVariants.{Rule}
-
-infixl 10 ◌>>=◌
-abbrev pub ◌>>=◌ : {A B : Type 0} → Result A TextFault → (A → Result B TextFault) → Result B TextFault
-(Ok x) >>= f = f x
-(Err fault) >>= f = Err fault
 
 -- what was read, seen by view
 abbrev pub seen : {A B : Type 0} → (A → B) → Result A TextFault → Result B TextFault

@@ -1,5 +1,8 @@
 //! The partition file, read into the raw definitions of its partitions. The file is TOML: `blocks`, and a
 //! `[[partition]]` table for each partition.
+//!
+//! - `file`: the whole file, or the first table that breaks a rule;
+//! - `table`, `value`: one table, and what its values say.
 #![tactic(auto)]
 
 mod file;

@@ -1,34 +1,11 @@
-ghost use Rattle.std.specs.Prelude.{◌≡◌, ◌<◌, ℕ, IfSome, List, length, position};
+ghost use Rattle.std.specs.Prelude.{◌≡◌, ◌<◌, ℕ, List};
 ghost use Rattle.std.specs.Cmp.{IsTotalOrder};
-ghost use Rattle.std.specs.Ordering.{is_le};
 ghost use Rattle.std.specs.declared.cmp.Ordering.TheVariants.{Equal};
-ghost use Rattle.hal_schema.specs.Keys.{key_cmp};
-ghost use Rattle.hal_schema.specs.Roots.{partition_of, partition_place, anchor_of, anchor_place, root_cmp};
+ghost use Rattle.hal_schema.specs.declared.schema.Schema.{Schema};
+ghost use Rattle.hal_schema.specs.Roots.{partition_place, anchor_of, anchor_place, root_cmp};
 
-use hal_schema::{PartDef, Schema};
+use hal_schema::{Schema, select};
 use std::cmp::Ordering;
-
-/// The place of the partition that a root key belongs to, none where the key is above every high key.
-pub fn select(schema: &Schema, key: &[u8]) -> Option<u16>
-    ensures { result ≡ partition_of schema.now key.now }
-{
-    match first_reaching(schema.parts.as_slice(), key) {
-        Some(place) => Some(place as u16),
-        None => None,
-    }
-}
-
-fn first_reaching(parts: &[PartDef], key: &[u8]) -> Option<usize>
-    ensures place { result ≡ position (λ part. is_le (key_cmp key.now part.high)) parts.now }
-    ensures within { IfSome result (λ place. place < length parts.now) }
-{
-    for (place, part) in parts.iter().enumerate() {
-        if reaches(part, key) {
-            return Some(place);
-        }
-    }
-    None
-}
 
 /// Which of a PHDAM partition's root anchors a root key has.
 pub fn anchor(key: &[u8], anchors: u32) -> u32
@@ -53,16 +30,10 @@ pub fn root_cmp(schema: &Schema, a: &[u8], b: &[u8]) -> Ordering
 }
 
 /// The order of roots is total, and only equal keys compare as equal.
-pub fn root_order_is_total(schema: &Schema)
-    ensures total { IsTotalOrder (root_cmp schema.now) }
-    ensures exact { (a b : List ℕ) → root_cmp schema.now a b ≡ Equal → a ≡ b }
+pub fn root_order_is_total()
+    ensures total { (schema : Schema) → IsTotalOrder (root_cmp schema) }
+    ensures exact { (schema : Schema) (a b : List ℕ) → root_cmp schema a b ≡ Equal → a ≡ b }
 {}
-
-fn reaches(part: &PartDef, key: &[u8]) -> bool
-    ensures { result ≡ is_le (key_cmp key.now part.now.high) }
-{
-    key.cmp(part.high.as_slice()).is_le()
-}
 
 fn place_of(schema: &Schema, key: &[u8]) -> usize
     ensures { result ≡ partition_place schema.now key.now }

@@ -16,6 +16,6 @@ fn keys_up_to_the_high_key_are_selected(rt: HostRuntime) -> Result<(), Fail> {
     assert_eq!(rt; select(&schema, b"~~~"), Some(0));
     assert_eq!(rt; select(&schema, b"~~\x7f"), None);
     assert_eq!(rt; root_cmp(&schema, b"100", b"200"), Ordering::Less);
-    root_order_is_total(&schema);
+    root_order_is_total();
     Ok(())
 }

@@ -6,8 +6,7 @@ ghost use Rattle.volume_image.specs.Rows.{HasRowRoom};
 ghost use Rattle.hal_schema.specs.SegType.{key_bytes};
 
 use hal_base::{Bytes, Cursor, Memory, PartState, get16, get32, put16};
-use hal_schema::{PartDef, Schema};
-use partition_select::select;
+use hal_schema::{PartDef, Schema, select};
 use std::alloc::Global;
 
 /// The bytes of a control row.

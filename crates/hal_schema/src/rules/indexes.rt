@@ -6,7 +6,7 @@ ghost use Rattle.hal_schema.specs.Lawful.{fields_are_kept, index_is_kept, is_key
 ghost use Rattle.hal_schema.specs.Places.{statement, when};
 ghost use Rattle.hal_schema.specs.Raw.{code_named, fields_named, index_of};
 ghost use Rattle.hal_schema.specs.Rules.{indexes_broken};
-ghost use Rattle.hal_schema.specs.SegType.{ancestry, key_bytes, parent_of, path_key_bytes, type_of};
+ghost use Rattle.hal_schema.specs.SegType.{ancestry, key_bytes, parent_code, path_key_bytes, type_of};
 
 use crate::fault::{note, statement};
 use crate::rules::types::{is_key_portion, is_within};
@@ -157,7 +157,7 @@ fn is_at_or_below(types: &[SegType], source: u8, target: u8) -> bool
     requires above { 0 < source }
     requires known { source ≤ length types.now }
     requires parents { IsTrue (parents_are_before types.now) }
-    ensures { result ≡ list_any (λ code. code == target) (ancestry (parent_of types.now) source) }
+    ensures { result ≡ list_any (λ code. code == target) (ancestry (parent_code types.now) source) }
 {
     let mut at = source;
     while at != target {

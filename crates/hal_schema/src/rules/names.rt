@@ -1,7 +1,7 @@
 ghost use Rattle.std.specs.Prelude.{◌≡◌, ◌++◌, ◌==◌, IfOk, OnOk, filter, flat_map, map};
 ghost use Rattle.std.specs.Str.{bytes_eq};
 ghost use Rattle.hal_schema.specs.Places.{later, partition, statement, twice, when};
-ghost use Rattle.hal_schema.specs.Rules.{field_names, fields_of, index_name, names_repeated, names_twice, part_name, same_name, same_number, type_name, xdflds_of};
+ghost use Rattle.hal_schema.specs.Rules.{field_names, named_fields, index_name, names_repeated, names_twice, part_name, same_name, same_number, type_name, xdflds_of};
 
 use crate::fault::{later, note, partition, statement};
 use crate::{Place, RawField, RawIndex, RawPart, RawSchema, RawType};
@@ -107,7 +107,7 @@ fn field_names(alloc: Global, indexes: &[RawIndex], t: &RawType) -> Result<List<
 }
 
 fn add_fields(named: &mut List<Named>, fields: &[RawField]) -> Result<(), Memory>
-    ensures { OnOk result (named.new ≡ named.old ++ fields_of fields.now) }
+    ensures { OnOk result (named.new ≡ named.old ++ named_fields fields.now) }
 {
     for f in fields {
         named.push(Named {

@@ -2,7 +2,7 @@ ghost use Rattle.std.specs.Prelude.{◌≡◌, ◌<◌, ◌≤◌, ◌++◌, ◌
 ghost use Rattle.hal_schema.specs.Lawful.{parents_are_before};
 ghost use Rattle.hal_schema.specs.Raw.{code_of, types_of};
 ghost use Rattle.hal_schema.specs.Rules.{is_unknown_parent, misplaced_roots, unknown_parents};
-ghost use Rattle.hal_schema.specs.SegType.{level_of, parent_of};
+ghost use Rattle.hal_schema.specs.SegType.{level_of, parent_code};
 
 use crate::fault::{note, statement};
 use crate::{Place, RawType};
@@ -71,7 +71,7 @@ pub(crate) fn code_of(types: &[RawType], name: Name8) -> Option<usize>
 fn parent_code(types: &[RawType], code: usize) -> Option<usize>
     requires above { 0 < code }
     requires known { code ≤ length types.now }
-    ensures { result ≡ parent_of (types_of types.now) code }
+    ensures { result ≡ parent_code (types_of types.now) code }
 {
     match types[code - 1].parent {
         None => None,

@@ -4,19 +4,19 @@ use Rattle.data_set_pairs.proofs.Standing.{if_told, quiet_known, numbered_known,
 use Rattle.data_set_pairs.proofs.volume.Volume.is_its_blocks.Goals as goal
 
 pub returns-clause-rows : goal.returns-clause-rows
-returns-clause-rows g c = let v = c.args.self.now in if_told (g.B.Blocks.list v.blocks) (λ list is. (v.laid list is).rows)
+returns-clause-rows g c = let v = c.args.self.now in if_told (g.B.Blocks.seen v.blocks).list (λ list is. (v.laid list is).rows)
 
 pub returns-clause-rest : goal.returns-clause-rest
-returns-clause-rest g c = let v = c.args.self.now in if_told (g.B.Blocks.list v.blocks) (λ list is. (v.laid list is).rest)
+returns-clause-rest g c = let v = c.args.self.now in if_told (g.B.Blocks.seen v.blocks).list (λ list is. (v.laid list is).rest)
 
 pub returns-clause-pages : goal.returns-clause-pages
-returns-clause-pages g c = let v = c.args.self.now in if_told (g.B.Blocks.list v.blocks) (λ list is set n block at. place_page v.indexes v.states.items v.control v.table.pages.items (reverse v.table.free.items) list set n block (v.laid list is).table v.in_table.run at)
+returns-clause-pages g c = let v = c.args.self.now in if_told (g.B.Blocks.seen v.blocks).list (λ list is set n block at. place_page v.indexes v.states.items v.control v.table.pages.items (reverse v.table.free.items) list set n block (v.laid list is).table v.in_table.run at)
 
 pub returns-clause-known : goal.returns-clause-known
-returns-clause-known g c = let v = c.args.self.now in if_told (g.B.Blocks.list v.blocks) (λ list is quiet. quiet_known v.indexes v.control (g.B.Blocks.number v.blocks) v.states.items v.table.pages.items (reverse v.table.free.items) list v.in_table (v.laid list is) quiet)
+returns-clause-known g c = let v = c.args.self.now in if_told (g.B.Blocks.seen v.blocks).list (λ list is quiet. quiet_known v.indexes v.control (g.B.Blocks.seen v.blocks).number v.states.items v.table.pages.items (reverse v.table.free.items) list v.in_table (v.laid list is) quiet)
 
 pub returns-clause-numbered : goal.returns-clause-numbered
-returns-clause-numbered g c = let v = c.args.self.now in if_told (g.B.Blocks.list v.blocks) (λ list is known. numbered_known v.indexes v.control (g.B.Blocks.number v.blocks) v.states.items v.table.pages.items (reverse v.table.free.items) list v.in_table (v.laid list is) known)
+returns-clause-numbered g c = let v = c.args.self.now in if_told (g.B.Blocks.seen v.blocks).list (λ list is known. numbered_known v.indexes v.control (g.B.Blocks.seen v.blocks).number v.states.items v.table.pages.items (reverse v.table.free.items) list v.in_table (v.laid list is) known)
 
 pub returns-clause-counted : goal.returns-clause-counted
-returns-clause-counted g c = let v = c.args.self.now in if_told (g.B.Blocks.list v.blocks) (λ list is known set. counted_known v.indexes v.control (g.B.Blocks.number v.blocks) v.states.items v.table.pages.items (reverse v.table.free.items) list set (v.laid list is) known)
+returns-clause-counted g c = let v = c.args.self.now in if_told (g.B.Blocks.seen v.blocks).list (λ list is known set. counted_known v.indexes v.control (g.B.Blocks.seen v.blocks).number v.states.items v.table.pages.items (reverse v.table.free.items) list set (v.laid list is) known)

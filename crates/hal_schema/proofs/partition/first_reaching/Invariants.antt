@@ -2,7 +2,7 @@ use Rattle.std.proofs.Common.{◌≡◌, ◌+◌, drop}
 use Rattle.std.specs.List.{position_or_len}
 use Rattle.std.specs.Ordering.{is_le}
 use Rattle.hal_schema.specs.Keys.{key_cmp}
-use Rattle.partition_select.proofs.roots.first_reaching.Given as goal
+use Rattle.hal_schema.proofs.partition.first_reaching.Given as goal
 
 abbrev pub invariant-loop-place : goal.invariant-loop-place
 invariant-loop-place l =

@@ -1,6 +1,0 @@
-use Rattle.std.proofs.Common.{◌≡◌, take, min}
-use Rattle.hal_desk.specs.Words.{value_of}
-use Rattle.hal_desk.proofs.words.value_of.Given as goal
-
-abbrev pub invariant-loop-digit : goal.invariant-loop-digit
-invariant-loop-digit l = l.value ≡ min (value_of (take l.digit-index l.digits)) 4294967296
