@@ -1,7 +1,9 @@
 -- A change of a layout, seen as a change of the map from address to cell.
-use Rattle.std.proofs.Common.{◌≡◌, ◌≢◌, ℕ, zero, suc, ◌+◌, ◌-◌, ◌*◌, ◌/◌, ◌^◌, ◌<◌, ◌≤◌, ◌⊎◌, inl, inr, false, List, [], ◌∷◌, ◌++◌, length, get_or, replicate, Some, refl, sym, ap, subst, ◌∙◌, arith}
+use Rattle.std.proofs.Common.{◌≡◌, ◌≢◌, ℕ, zero, suc, ◌+◌, ◌-◌, ◌*◌, ◌/◌, ◌^◌, ◌<◌, ◌⊎◌, inl, inr, Bool, false, cond, List, [], ◌∷◌, ◌++◌, length, get_or, replicate, Option, Some, None, refl, sym, ap, subst, ◌∙◌, append_assoc, arith}
 use Rattle.std.specs.Prelude.{slice_get}
-use Rattle.std.proofs.lemmas.Bool.{cases_eq, cases_lt}
+use Rattle.std.specs.Option.{option_map}
+use Rattle.std.proofs.lemmas.Bool.{cases_eq, cases_lt, eq-eqb}
+use Rattle.std.proofs.lemmas.Bool.Decides.{eqb_tells}
 use Rattle.std.proofs.lemmas.List.{length-set}
 use Rattle.std.proofs.lemmas.Option.{slice_get_within, slice_get-get_or}
 use Rattle.hal_base.specs.declared.place.Shape.{Shape}
@@ -9,20 +11,16 @@ use Rattle.hal_base.specs.declared.pages.SetId.{SetId}
 use Rattle.segment_blocks.specs.declared.tile.Cell.{Cell}
 use Rattle.segment_blocks.specs.declared.tile.Tile.{Tile}
 use Rattle.segment_blocks.specs.declared.tile.Tile.TheVariants.{Hole, Seg}
-use Rattle.segment_blocks.specs.Tiling.{spelled, AreTilesFrom, IsTiling}
+use Rattle.segment_blocks.specs.Tiling.{AreTilesFrom}
+use Rattle.segment_blocks.specs.TilesOf.{cell_among}
 use Rattle.free_space.specs.Address.{letter_index, page_at, offset_at}
 use Rattle.free_space.specs.Space.{AreHoles}
 use Rattle.free_space.specs.Gaps.{left_over}
-use Rattle.free_space.specs.Clearing.{ends_in_hole}
-use Rattle.free_space.specs.Layout.{StandsAt}
-use Rattle.free_space.specs.Changes.{Replaces, Rewrites, GivesBack}
-use Rattle.free_space.specs.Placing.{length_of, grown, TakesHole, Appends}
-use Rattle.free_space.specs.MapView.{AreShelved, SameElsewhere, Adds, Alters, Drops}
-use Rattle.free_space.proofs.Openings.{some_is}
-use Rattle.free_space.proofs.Layouts.{set_same, set_other}
-use Rattle.free_space.proofs.Runs.{behind}
-use Rattle.free_space.proofs.Rewriting.{cell_inside}
-use Rattle.free_space.proofs.Members.{IsIn, in_cases, in_left, in_right, in_copies, in_one, no_cell, left_is_hole, from_start, before_rest, one_tile}
+use Rattle.free_space.specs.Map.{cell_on, cell_at, SameElsewhere, Adds, Alters, Drops}
+use Rattle.free_space.specs.Changes.{Replaces}
+use Rattle.free_space.specs.Placing.{grown, IsLeftEmpty}
+use Rattle.free_space.proofs.CellsOf.{none_first, none_parts, no_cells, here_is, not_here, not_filled, around, last_none, none_before, apart_from, before_it}
+use Rattle.free_space.proofs.Told.{some_is, set_same, set_other}
 
 -- ---- addresses
 
@@ -43,207 +41,159 @@ same_address x y letter page offset =
 offset_few : (x : ℕ) → offset_at x < 4096
 offset_few x = omega arith
 
--- ---- one page
+-- ---- what stands at an address
 
-pub page_tiled : (shapes : List Shape) (pages : List (List ℕ)) (layout : List (List Tile)) (n : ℕ) (tiles : List Tile) → AreShelved shapes pages layout → slice_get layout n ≡ Some tiles → AreTilesFrom shapes 16 false tiles
-page_tiled shapes pages layout n tiles shelved at =
-    let within : n < length pages = omega (arith, slice_get_within layout n tiles at, shelved.is.many) in
-    (shelved.is.each n (get_or pages n []) tiles (slice_get-get_or pages n [] within) at).tiled
+at_is : (set : SetId) (layout : List (List Tile)) (at : ℕ) → at / 2 ^ 28 ≡ letter_index set.letter → cell_at set layout at ≡ cell_on (offset_at at) (slice_get layout (page_at at))
+unfolding cell_at
+at_is set layout at letter = ap (λ (b : Bool). cond b (cell_on (offset_at at) (slice_get layout (page_at at))) None) (eq-eqb (at / 2 ^ 28) (letter_index set.letter) letter)
 
-stands : (set : SetId) (layout : List (List Tile)) (x : ℕ) (cell : Cell) (tiles : List Tile) → x / 2 ^ 28 ≡ letter_index set.letter → slice_get layout (page_at x) ≡ Some tiles → IsIn tiles (Seg (offset_at x) cell) → StandsAt set layout x cell
-stands set layout x cell tiles letter page is = record { letter = letter; tiles = tiles; place = is.0; page = page; tile = is.1 }
+pub no_letter : (set : SetId) (layout : List (List Tile)) (at : ℕ) → (at / 2 ^ 28 ≡ letter_index set.letter → ⊥) → cell_at set layout at ≡ None
+unfolding cell_at
+no_letter set layout at apart =
+    elim (eqb_tells (at / 2 ^ 28) (letter_index set.letter)) [
+      | inl same ↦ absurd (apart same.1)
+      | inr other ↦ ap (λ (b : Bool). cond b (cell_on (offset_at at) (slice_get layout (page_at at))) None) other.0
+    ]
 
-pub one_cell : (shapes : List Shape) (pages : List (List ℕ)) (layout : List (List Tile)) (set : SetId) (at : ℕ) (one other : Cell) → AreShelved shapes pages layout → StandsAt set layout at one → StandsAt set layout at other → one ≡ other
-one_cell shapes pages layout set at one other shelved s t =
-    let same : s.tiles ≡ t.tiles = some_is s.tiles t.tiles (sym s.page ∙ t.page) in
-    let also : IsIn s.tiles (Seg (offset_at at) other) = (t.place, ap (λ (l : List Tile). slice_get l t.place) same ∙ t.tile) in
-    let equal : Seg (offset_at at) one ≡ Seg (offset_at at) other = one_tile shapes 16 false s.tiles (Seg (offset_at at) one) (Seg (offset_at at) other) (page_tiled shapes pages layout (page_at at) s.tiles shelved s.page) (s.place, s.tile) also refl in
-    cc
+pub no_page : (set : SetId) (layout : List (List Tile)) (at : ℕ) → slice_get layout (page_at at) ≡ None → cell_at set layout at ≡ None
+no_page set layout at none =
+    elim (eqb_tells (at / 2 ^ 28) (letter_index set.letter)) [
+      | inl same ↦ at_is set layout at same.1 ∙ ap (cell_on (offset_at at)) none
+      | inr other ↦ no_letter set layout at other.1
+    ]
+
+pub stands_at : (set : SetId) (layout : List (List Tile)) (at n off : ℕ) (tiles : List Tile) → at / 2 ^ 28 ≡ letter_index set.letter → page_at at ≡ n → offset_at at ≡ off → slice_get layout n ≡ Some tiles
+    → cell_at set layout at ≡ cell_among off tiles
+stands_at set layout at n off tiles letter page offset among =
+    at_is set layout at letter ∙ ap (cell_on (offset_at at)) (ap (slice_get layout) page ∙ among) ∙ ap (λ (o : ℕ). cell_among o tiles) offset
+
+on_page : (o : ℕ) (page : Option (List Tile)) (cell : Cell) → cell_on o page ≡ Some cell → (tiles : List Tile) × (page ≡ Some tiles) × (cell_among o tiles ≡ Some cell)
+on_page o None cell is = absurd (let wrong : None ≡ Some cell = is in cc)
+on_page o (Some tiles) cell is = (tiles, refl, is)
+
+-- a cell that stands at an address stands in a page, under the letter
+pub stood_at : (set : SetId) (layout : List (List Tile)) (at : ℕ) (cell : Cell) → cell_at set layout at ≡ Some cell
+    → (at / 2 ^ 28 ≡ letter_index set.letter) × ((tiles : List Tile) × (slice_get layout (page_at at) ≡ Some tiles) × (cell_among (offset_at at) tiles ≡ Some cell))
+stood_at set layout at cell is =
+    elim (eqb_tells (at / 2 ^ 28) (letter_index set.letter)) [
+      | inl same ↦ (same.1, on_page (offset_at at) (slice_get layout (page_at at)) cell (sym (at_is set layout at same.1) ∙ is))
+      | inr other ↦ absurd (let wrong : None ≡ Some cell = sym (no_letter set layout at other.1) ∙ is in cc)
+    ]
+
+same_at : (set : SetId) (old new : List (List Tile)) (at : ℕ) → (at / 2 ^ 28 ≡ letter_index set.letter → cell_on (offset_at at) (slice_get new (page_at at)) ≡ cell_on (offset_at at) (slice_get old (page_at at)))
+    → cell_at set new at ≡ cell_at set old at
+same_at set old new at same =
+    elim (eqb_tells (at / 2 ^ 28) (letter_index set.letter)) [
+      | inl letter ↦ at_is set new at letter.1 ∙ same letter.1 ∙ sym (at_is set old at letter.1)
+      | inr other ↦ no_letter set new at other.1 ∙ sym (no_letter set old at other.1)
+    ]
 
 -- ---- a run of tiles that gives way
 
--- the cells of a run begin at this offset
+-- no cell of a run begins elsewhere than at this offset
 abbrev OnlyAt : ℕ → List Tile → Type 0
-OnlyAt off run = (o : ℕ) (cell : Cell) → IsIn run (Seg o cell) → o ≡ off
+OnlyAt off run = (o : ℕ) → o ≢ off → cell_among o run ≡ None
 
--- what stands outside of the run stands behind the change as before it
-around : (before run other after : List Tile) (off o : ℕ) (cell : Cell) → OnlyAt off run → o ≢ off → IsIn (before ++ (run ++ after)) (Seg o cell) → IsIn (before ++ (other ++ after)) (Seg o cell)
-around before run other after off o cell only apart is =
-    elim (in_cases before (run ++ after) (Seg o cell) is) [
-      | inl left ↦ (left.0, in_left before (other ++ after) (Seg o cell) left.0 left.1)
-      | inr rest ↦ elim (in_cases run after (Seg o cell) rest) [
-        | inl within ↦ absurd (apart (only o cell within))
-        | inr right ↦ in_right before (other ++ after) (Seg o cell) (in_right other after (Seg o cell) right)
-      ]
-    ]
-
-pub replaced_tiles : (old new : List (List Tile)) (n : ℕ) (before run other after : List Tile) → Replaces old new n before run other after → slice_get new n ≡ Some (before ++ (other ++ after))
+replaced_tiles : (old new : List (List Tile)) (n : ℕ) (before run other after : List Tile) → Replaces old new n before run other after → slice_get new n ≡ Some (before ++ (other ++ after))
 replaced_tiles old new n before run other after r =
     let within : n < length new = omega (arith, slice_get_within old n (before ++ (run ++ after)) r.was, ap length r.is, length-set old n (before ++ (other ++ after))) in
     let there : slice_get new n ≡ Some (get_or new n []) = slice_get-get_or new n [] within in
     let same : before ++ (other ++ after) ≡ get_or new n [] = set_same old n (before ++ (other ++ after)) (get_or new n []) (ap (λ (l : List (List Tile)). slice_get l n) (sym r.is) ∙ there) in
     there ∙ ap (λ (l : List Tile). Some l) (sym same)
 
-apart_there : (set : SetId) (old new : List (List Tile)) (n off : ℕ) (before run other after : List Tile) (x : ℕ) (cell : Cell) → Replaces old new n before run other after → OnlyAt off run → (page_at x ≡ n → offset_at x ≢ off)
-    → StandsAt set old x cell → StandsAt set new x cell
-apart_there set old new n off before run other after x cell r only apart s =
-    elim (cases_eq (page_at x) n) [
-      | inl same ↦ let tiles : s.tiles ≡ before ++ (run ++ after) = some_is s.tiles (before ++ (run ++ after)) (sym s.page ∙ ap (slice_get old) same ∙ r.was) in
-          stands set new x cell (before ++ (other ++ after)) s.letter (ap (slice_get new) same ∙ replaced_tiles old new n before run other after r)
-          (around before run other after off (offset_at x) cell only (apart same) (s.place, ap (λ (l : List Tile). slice_get l s.place) (sym tiles) ∙ s.tile))
-      | inr differ ↦ stands set new x cell s.tiles s.letter (ap (λ (l : List (List Tile)). slice_get l (page_at x)) r.is ∙ set_other old n (page_at x) (before ++ (other ++ after)) differ ∙ s.page) (s.place, s.tile)
-    ]
-
-apart_back : (set : SetId) (old new : List (List Tile)) (n off : ℕ) (before run other after : List Tile) (x : ℕ) (cell : Cell) → Replaces old new n before run other after → OnlyAt off other → (page_at x ≡ n → offset_at x ≢ off)
-    → StandsAt set new x cell → StandsAt set old x cell
-apart_back set old new n off before run other after x cell r only apart s =
-    elim (cases_eq (page_at x) n) [
-      | inl same ↦ let tiles : s.tiles ≡ before ++ (other ++ after) = some_is s.tiles (before ++ (other ++ after)) (sym s.page ∙ ap (slice_get new) same ∙ replaced_tiles old new n before run other after r) in
-          stands set old x cell (before ++ (run ++ after)) s.letter (ap (slice_get old) same ∙ r.was)
-          (around before other run after off (offset_at x) cell only (apart same) (s.place, ap (λ (l : List Tile). slice_get l s.place) (sym tiles) ∙ s.tile))
-      | inr differ ↦ stands set old x cell s.tiles s.letter (sym (ap (λ (l : List (List Tile)). slice_get l (page_at x)) r.is ∙ set_other old n (page_at x) (before ++ (other ++ after)) differ) ∙ s.page) (s.place, s.tile)
-    ]
-
 -- all but the address where the change was
 elsewhere : (set : SetId) (old new : List (List Tile)) (n off at : ℕ) (before run other after : List Tile) → Replaces old new n before run other after → OnlyAt off run → OnlyAt off other
-    → at / 2 ^ 28 ≡ letter_index set.letter → page_at at ≡ n → offset_at at ≡ off → SameElsewhere set at old new
-elsewhere set old new n off at before run other after r only_run only_other letter page offset = λ x cell differ.
-    let apart = λ (s : x / 2 ^ 28 ≡ letter_index set.letter) (p : page_at x ≡ n) (o : offset_at x ≡ off). differ (same_address x at (s ∙ sym letter) (p ∙ sym page) (o ∙ sym offset)) in (
-      (λ s. apart_back set old new n off before run other after x cell r only_other (apart s.letter) s),
-      (λ s. apart_there set old new n off before run other after x cell r only_run (apart s.letter) s),
-    )
+    → at / 2 ^ 28 ≡ letter_index set.letter → page_at at ≡ n → offset_at at ≡ off → SameElsewhere at (cell_at set old) (cell_at set new)
+elsewhere set old new n off at before run other after r only_run only_other letter page offset = λ x differ. same_at set old new x (λ same_letter.
+    elim (cases_eq (page_at x) n) [
+      | inl same ↦ let apart : offset_at x ≢ off = λ is. differ (same_address x at (same_letter ∙ sym letter) (same ∙ sym page) (is ∙ sym offset)) in
+          ap (cell_on (offset_at x)) (ap (slice_get new) same ∙ replaced_tiles old new n before run other after r)
+          ∙ around (offset_at x) before run other after (only_run (offset_at x) apart) (only_other (offset_at x) apart)
+          ∙ ap (cell_on (offset_at x)) (sym (ap (slice_get old) same ∙ r.was))
+      | inr apart ↦ ap (cell_on (offset_at x)) (ap (λ (l : List (List Tile)). slice_get l (page_at x)) r.is ∙ set_other old n (page_at x) (before ++ (other ++ after)) apart)
+    ])
+
+only_one : (off : ℕ) (cell : Cell) → OnlyAt off (Seg off cell ∷ [])
+only_one off cell = λ o apart. not_here o off cell [] apart ∙ no_cells o [] refl
+
+only_holes : (off : ℕ) (tiles : List Tile) → AreHoles tiles → OnlyAt off tiles
+only_holes off tiles holes = λ o apart. no_cells o tiles holes
 
 -- ---- a cell that is changed, and one that is given back
 
-only_one : (off : ℕ) (cell : Cell) → OnlyAt off (Seg off cell ∷ [])
-only_one off cell = λ o c is. let same : Seg off cell ≡ Seg o c = in_one (Seg off cell) (Seg o c) is in cc
-
-only_none : (off : ℕ) (tiles : List Tile) → AreHoles tiles → OnlyAt off tiles
-only_none off tiles holes = λ o c is. absurd (no_cell tiles o c holes is)
-
-pub alters : (shapes : List Shape) (pages : List (List ℕ)) (set : SetId) (at : ℕ) (change : Cell → Cell) (old new : List (List Tile)) (first : Cell) → AreShelved shapes pages old → StandsAt set old at first
-    → Rewrites at change old new → Alters set at change old new
-alters shapes pages set at change old new first shelved there w = record {
-  altered = λ cell s.
-      let here : StandsAt set old at w.cell = stands set old at w.cell (w.before ++ (Seg (offset_at at) w.cell ∷ w.after)) s.letter w.replaced.was (in_right w.before (Seg (offset_at at) w.cell ∷ w.after) (Seg (offset_at at) w.cell) (0, refl)) in
-      let same : w.cell ≡ cell = one_cell shapes pages old set at w.cell cell shelved here s in
-      subst (λ (c : Cell). StandsAt set new at (change c)) same
-      (stands set new at (change w.cell) (w.before ++ (Seg (offset_at at) (change w.cell) ∷ w.after)) s.letter
-      (replaced_tiles old new (page_at at) w.before (Seg (offset_at at) w.cell ∷ []) (Seg (offset_at at) (change w.cell) ∷ []) w.after w.replaced)
-      (in_right w.before (Seg (offset_at at) (change w.cell) ∷ w.after) (Seg (offset_at at) (change w.cell)) (0, refl)));
-  elsewhere = elsewhere set old new (page_at at) (offset_at at) at w.before (Seg (offset_at at) w.cell ∷ []) (Seg (offset_at at) (change w.cell) ∷ []) w.after w.replaced
-      (only_one (offset_at at) w.cell) (only_one (offset_at at) (change w.cell)) there.letter refl refl;
-}
+pub alters : (shapes : List Shape) (set : SetId) (at : ℕ) (change : Cell → Cell) (old new : List (List Tile)) (before after : List Tile) (cell : Cell) → at / 2 ^ 28 ≡ letter_index set.letter
+    → AreTilesFrom shapes 16 false (before ++ Seg (offset_at at) cell ∷ after) → Replaces old new (page_at at) before (Seg (offset_at at) cell ∷ []) (Seg (offset_at at) (change cell) ∷ []) after
+    → Alters at change (cell_at set old) (cell_at set new)
+alters shapes set at change old new before after cell letter are r =
+    let off : ℕ = offset_at at in
+    let none = apart_from shapes 16 false before (Seg off cell) after off are refl in
+    let was : cell_at set old at ≡ Some cell =
+    stands_at set old at (page_at at) off (before ++ (Seg off cell ∷ after)) letter refl refl r.was ∙ none_first off before (Seg off cell ∷ after) none.0 ∙ here_is off cell after in
+    let is : cell_at set new at ≡ Some (change cell) =
+    stands_at set new at (page_at at) off (before ++ (Seg off (change cell) ∷ after)) letter refl refl (replaced_tiles old new (page_at at) before (Seg off cell ∷ []) (Seg off (change cell) ∷ []) after r)
+    ∙ none_first off before (Seg off (change cell) ∷ after) none.0 ∙ here_is off (change cell) after in
+    record {
+      altered = is ∙ sym (ap (option_map change) was);
+      elsewhere = elsewhere set old new (page_at at) off at before (Seg off cell ∷ []) (Seg off (change cell) ∷ []) after r (only_one off cell) (only_one off (change cell)) letter refl refl;
+    }
 
 only_run : (off : ℕ) (left : List Tile) (cell : Cell) (right : List Tile) → AreHoles left → AreHoles right → OnlyAt off (left ++ Seg off cell ∷ right)
-only_run off left cell right left_holes right_holes = λ o c is.
-    elim (in_cases left (Seg off cell ∷ right) (Seg o c) is) [
-      | inl within ↦ absurd (no_cell left o c left_holes within)
-      | inr rest ↦ elim (in_cases (Seg off cell ∷ []) right (Seg o c) rest) [
-        | inl one ↦ only_one off cell o c one
-        | inr behind_it ↦ absurd (no_cell right o c right_holes behind_it)
-      ]
-    ]
+only_run off left cell right left_holes right_holes = λ o apart.
+    none_first o left (Seg off cell ∷ right) (no_cells o left left_holes) ∙ not_here o off cell right apart ∙ no_cells o right right_holes
 
-pub drops : (shapes : List Shape) (pages : List (List ℕ)) (set : SetId) (at : ℕ) (old new : List (List Tile)) (first : Cell) → AreShelved shapes pages old → StandsAt set old at first → GivesBack at old new → Drops set at old new
-drops shapes pages set at old new first shelved there w =
+pub drops : (shapes : List Shape) (set : SetId) (at begin len : ℕ) (old new : List (List Tile)) (before left right after : List Tile) (cell : Cell) → at / 2 ^ 28 ≡ letter_index set.letter
+    → AreTilesFrom shapes 16 false (before ++ ((left ++ Seg (offset_at at) cell ∷ right) ++ after)) → AreHoles left → AreHoles right
+    → Replaces old new (page_at at) before (left ++ Seg (offset_at at) cell ∷ right) (Hole begin len ∷ []) after → Drops at (cell_at set old) (cell_at set new)
+drops shapes set at begin len old new before left right after cell letter are left_holes right_holes r =
     let off : ℕ = offset_at at in
-    let run : List Tile = w.left ++ Seg off w.cell ∷ w.right in
-    let are : AreTilesFrom shapes 16 false (w.before ++ (run ++ w.after)) = page_tiled shapes pages old (page_at at) (w.before ++ (run ++ w.after)) shelved w.replaced.was in
-    let from_run : AreTilesFrom shapes (16 + length (spelled w.before)) (ends_in_hole false w.before) (run ++ w.after) = behind shapes 16 false w.before (run ++ w.after) are in
-    let cell_there : IsIn run (Seg off w.cell) = in_right w.left (Seg off w.cell ∷ w.right) (Seg off w.cell) (0, refl) in
-    let low : 16 + length (spelled w.before) ≤ off = from_start shapes (16 + length (spelled w.before)) (ends_in_hole false w.before) (run ++ w.after) (Seg off w.cell) from_run (cell_there.0, in_left run w.after (Seg off w.cell) cell_there.0 cell_there.1) in
-    let high : off < (16 + length (spelled w.before)) + length (spelled run) = before_rest shapes (16 + length (spelled w.before)) (ends_in_hole false w.before) run w.after (Seg off w.cell) from_run cell_there in
+    let run : List Tile = left ++ Seg off cell ∷ right in
+    let grouped : before ++ (run ++ after) ≡ (before ++ left) ++ Seg off cell ∷ (right ++ after) =
+    ap (λ (l : List Tile). before ++ l) (append_assoc left (Seg off cell ∷ right) after) ∙ sym (append_assoc before left (Seg off cell ∷ (right ++ after))) in
+    let none = apart_from shapes 16 false (before ++ left) (Seg off cell) (right ++ after) off (subst (AreTilesFrom shapes 16 false) grouped are) refl in
+    let front = none_parts off before left none.0 in
+    let back = none_parts off right after none.1 in
     record {
-      gone = λ cell s.
-          let tiles : s.tiles ≡ w.before ++ (Hole w.begin w.len ∷ w.after) = some_is s.tiles (w.before ++ (Hole w.begin w.len ∷ w.after)) (sym s.page ∙ replaced_tiles old new (page_at at) w.before run (Hole w.begin w.len ∷ []) w.after w.replaced) in
-          let is : IsIn (w.before ++ (Hole w.begin w.len ∷ w.after)) (Seg off cell) = (s.place, ap (λ (l : List Tile). slice_get l s.place) (sym tiles) ∙ s.tile) in
-          elim (in_cases w.before (Hole w.begin w.len ∷ w.after) (Seg off cell) is) [
-            | inl left ↦ absurd (omega (arith, low, before_rest shapes 16 false w.before (run ++ w.after) (Seg off cell) are left))
-            | inr rest ↦ elim (in_cases (Hole w.begin w.len ∷ []) w.after (Seg off cell) rest) [
-              | inl one ↦ let wrong : Hole w.begin w.len ≡ Seg off cell = in_one (Hole w.begin w.len) (Seg off cell) one in cc
-              | inr right ↦ absurd (omega (
-                arith,
-                high,
-                from_start shapes ((16 + length (spelled w.before)) + length (spelled run)) (ends_in_hole (ends_in_hole false w.before) run) w.after (Seg off cell)
-                    (behind shapes (16 + length (spelled w.before)) (ends_in_hole false w.before) run w.after from_run) right,
-              ))
-            ]
-          ];
-      elsewhere = elsewhere set old new (page_at at) off at w.before run (Hole w.begin w.len ∷ []) w.after w.replaced (only_run off w.left w.cell w.right w.left_holes w.right_holes) (only_none off (Hole w.begin w.len ∷ []) refl) there.letter refl refl;
+      gone = stands_at set new at (page_at at) off (before ++ (Hole begin len ∷ after)) letter refl refl (replaced_tiles old new (page_at at) before run (Hole begin len ∷ []) after r)
+          ∙ none_first off before (Hole begin len ∷ after) front.0 ∙ none_first off (Hole begin len ∷ []) after (no_cells off (Hole begin len ∷ []) refl) ∙ back.1;
+      elsewhere = elsewhere set old new (page_at at) off at before run (Hole begin len ∷ []) after r (only_run off left cell right left_holes right_holes) (only_holes off (Hole begin len ∷ []) refl) letter refl refl;
     }
 
 -- ---- a cell that came
 
--- past the end of a list, what stands in it and others stands in the others
-in_past : {X : Type 0} (xs ys : List X) (k : ℕ) (x : X) → length xs ≤ k → slice_get (xs ++ ys) k ≡ Some x → (j : ℕ) × (slice_get ys j ≡ Some x)
-in_past [] ys k x past is = (k, is)
-in_past (z ∷ xs) ys zero x past is = absurd (omega (arith, past))
-in_past (z ∷ xs) ys (suc k) x past is = in_past xs ys k x (omega (arith, past)) is
+on_empty : (o count p : ℕ) → cell_on o (slice_get (replicate count (Hole 16 4080 ∷ [])) p) ≡ None
+on_empty o zero p = refl
+on_empty o (suc count) zero = no_cells o (Hole 16 4080 ∷ []) refl
+on_empty o (suc count) (suc p) = on_empty o count p
 
-in_new : (set : SetId) (old : List (List Tile)) (count n o : ℕ) (cell : Cell) (tiles : List Tile) → length old ≤ n → slice_get (grown count old) n ≡ Some tiles → IsIn tiles (Seg o cell) → ⊥
-in_new set old count n o cell tiles past at is =
-    let found = in_past old (replicate count (Hole 16 4080 ∷ [])) n tiles past at in
-    let same : Hole 16 4080 ∷ [] ≡ tiles = in_copies count (Hole 16 4080 ∷ []) tiles found.0 found.1 in
-    no_cell (Hole 16 4080 ∷ []) o cell refl (is.0, ap (λ (l : List Tile). slice_get l is.0) same ∙ is.1)
+on_grown : (o count : ℕ) (old : List (List Tile)) (p : ℕ) → cell_on o (slice_get (grown count old) p) ≡ cell_on o (slice_get old p)
+on_grown o count [] p = on_empty o count p
+on_grown o count (tiles ∷ old) zero = refl
+on_grown o count (tiles ∷ old) (suc p) = on_grown o count old p
 
-in_grown : (set : SetId) (old : List (List Tile)) (count x : ℕ) (cell : Cell) → StandsAt set (grown count old) x cell → StandsAt set old x cell
-in_grown set old count x cell s =
-    elim (cases_lt (page_at x) (length old)) [
-      | inl below ↦ let there : slice_get old (page_at x) ≡ Some (get_or old (page_at x) []) = slice_get-get_or old (page_at x) [] below in
-          let same : get_or old (page_at x) [] ≡ s.tiles = some_is (get_or old (page_at x) []) s.tiles (sym (in_left old (replicate count (Hole 16 4080 ∷ [])) (get_or old (page_at x) []) (page_at x) there) ∙ s.page) in
-          stands set old x cell s.tiles s.letter (there ∙ ap (λ (l : List Tile). Some l) same) (s.place, s.tile)
-      | inr past ↦ absurd (in_new set old count (page_at x) (offset_at x) cell s.tiles past s.page (s.place, s.tile))
-    ]
+grown_at : (set : SetId) (old : List (List Tile)) (count x : ℕ) → cell_at set (grown count old) x ≡ cell_at set old x
+grown_at set old count x = same_at set old (grown count old) x (λ letter. on_grown (offset_at x) count old (page_at x))
 
-to_grown : (set : SetId) (old : List (List Tile)) (count x : ℕ) (cell : Cell) → StandsAt set old x cell → StandsAt set (grown count old) x cell
-to_grown set old count x cell s = stands set (grown count old) x cell s.tiles s.letter (in_left old (replicate count (Hole 16 4080 ∷ [])) s.tiles (page_at x) s.page) (s.place, s.tile)
-
-only_filled : (off at len : ℕ) (cell : Cell) → OnlyAt off (Seg off cell ∷ left_over at len)
-only_filled off at len cell = λ o c is.
-    elim (in_cases (Seg off cell ∷ []) (left_over at len) (Seg o c) is) [
-      | inl one ↦ only_one off cell o c one
-      | inr rest ↦ absurd (left_is_hole at len o c rest)
-    ]
-
--- the page and the offset of a cell that was put into a hole
-pub record Came (set : SetId) (at n offset : ℕ) : Type 0 where
-  pub letter : at / 2 ^ 28 ≡ letter_index set.letter
-  pub page : page_at at ≡ n
-  pub begins : offset_at at ≡ offset
-
-pub came : (shapes : List Shape) (pages : List (List ℕ)) (set : SetId) (cell : Cell) (at n room : ℕ) (before after : List Tile) (old new : List (List Tile)) → AreShelved shapes pages new
-    → (t : TakesHole set cell at n before room after old new) → Came set at n t.offset
-came shapes pages set cell at n room before after old new shelved t =
-    let put : List Tile = Seg t.offset cell ∷ left_over (t.offset + length_of cell) (room - length_of cell) in
-    let there : slice_get new n ≡ Some (before ++ (put ++ after)) = replaced_tiles old new n before (Hole t.offset room ∷ []) put after t.replaced in
-    let within : n < length pages = omega (arith, slice_get_within new n (before ++ (put ++ after)) there, shelved.is.many) in
-    let tiling : IsTiling shapes (get_or pages n []) (before ++ (put ++ after)) = shelved.is.each n (get_or pages n []) (before ++ (put ++ after)) (slice_get-get_or pages n [] within) there in
-    let place = in_right before (put ++ after) (Seg t.offset cell) (0, refl) in
-    let inside = cell_inside shapes (get_or pages n []) (before ++ (put ++ after)) place.0 t.offset cell tiling (shelved.long n [] within) place.1 in
-    let parts = encoded at (letter_index set.letter) n t.offset t.address (omega (arith, within, shelved.few)) (omega (arith, inside.0.room)) in
-    record { letter = parts.0; page = parts.1; begins = parts.2 }
-
-pub adds : (shapes : List Shape) (pages pages_now : List (List ℕ)) (set : SetId) (cell : Cell) (count at n room : ℕ) (before after : List Tile) (old new : List (List Tile)) → AreShelved shapes pages old → AreShelved shapes pages_now new
-    → TakesHole set cell at n before room after (grown count old) new → Adds set at cell old new
-adds shapes pages pages_now set cell count at n room before after old new shelved shelved_now t =
-    let c : Came set at n t.offset = came shapes pages_now set cell at n room before after (grown count old) new shelved_now t in
-    let put : List Tile = Seg t.offset cell ∷ left_over (t.offset + length_of cell) (room - length_of cell) in
-    let others : SameElsewhere set at (grown count old) new = elsewhere set (grown count old) new n t.offset at before (Hole t.offset room ∷ []) put after t.replaced (only_none t.offset (Hole t.offset room ∷ []) refl)
-    (only_filled t.offset (t.offset + length_of cell) (room - length_of cell) cell) c.letter c.page c.begins in
+pub adds : (shapes : List Shape) (set : SetId) (cell : Cell) (at n off len room : ℕ) (before after : List Tile) (old new : List (List Tile)) → at ≡ letter_index set.letter * 2 ^ 28 + n * 2 ^ 12 + off
+    → AreTilesFrom shapes 16 false (before ++ (Hole off room ∷ after)) → n < 65536 → off < 4096
+    → Replaces old new n before (Hole off room ∷ []) (Seg off cell ∷ left_over (off + len) (room - len)) after → Adds at cell (cell_at set old) (cell_at set new)
+adds shapes set cell at n off len room before after old new address are few inside r =
+    let put : List Tile = Seg off cell ∷ left_over (off + len) (room - len) in
+    let c = encoded at (letter_index set.letter) n off address few inside in
+    let none = apart_from shapes 16 false before (Hole off room) after off are refl in
     record {
-      stands = stands set new at cell (before ++ (put ++ after)) c.letter (ap (slice_get new) c.page ∙ replaced_tiles (grown count old) new n before (Hole t.offset room ∷ []) put after t.replaced)
-          (subst (λ (o : ℕ). IsIn (before ++ (put ++ after)) (Seg o cell)) (sym c.begins) (in_right before (put ++ after) (Seg t.offset cell) (0, refl)));
-      free = λ other s.
-          let among : slice_get (grown count old) (page_at at) ≡ Some s.tiles = in_left old (replicate count (Hole 16 4080 ∷ [])) s.tiles (page_at at) s.page in
-          let tiles : s.tiles ≡ before ++ (Hole t.offset room ∷ after) = some_is s.tiles (before ++ (Hole t.offset room ∷ after)) (sym among ∙ ap (slice_get (grown count old)) c.page ∙ t.replaced.was) in
-          let hole = in_right before (Hole t.offset room ∷ after) (Hole t.offset room) (0, refl) in
-          let wrong : Seg (offset_at at) other ≡ Hole t.offset room = one_tile shapes 16 false s.tiles (Seg (offset_at at) other) (Hole t.offset room) (page_tiled shapes pages old (page_at at) s.tiles shelved s.page) (s.place, s.tile)
-          (hole.0, ap (λ (l : List Tile). slice_get l hole.0) tiles ∙ hole.1) c.begins in
-          cc;
-      elsewhere = λ x other differ. let both = others x other differ in
-          ((λ s. in_grown set old count x other (both.0 s)), (λ s. both.1 (to_grown set old count x other s)));
+      free = stands_at set old at n off (before ++ (Hole off room ∷ after)) c.0 c.1 c.2 r.was
+          ∙ none_first off before (Hole off room ∷ after) none.0 ∙ none_first off (Hole off room ∷ []) after (no_cells off (Hole off room ∷ []) refl) ∙ none.1;
+      stands = stands_at set new at n off (before ++ (put ++ after)) c.0 c.1 c.2 (replaced_tiles old new n before (Hole off room ∷ []) put after r)
+          ∙ none_first off before (put ++ after) none.0 ∙ here_is off cell (left_over (off + len) (room - len) ++ after);
+      elsewhere = elsewhere set old new n off at before (Hole off room ∷ []) put after r (only_holes off (Hole off room ∷ []) refl)
+          (λ o apart. not_filled o off (off + len) (room - len) cell apart) c.0 c.1 c.2;
     }
+
+-- new pages hold no cell
+pub adds_grown : (set : SetId) (count at : ℕ) (cell : Cell) (old mid new : List (List Tile)) → mid ≡ grown count old → Adds at cell (cell_at set mid) (cell_at set new) → Adds at cell (cell_at set old) (cell_at set new)
+adds_grown set count at cell old mid new is a =
+    let same = λ (x : ℕ). ap (λ (l : List (List Tile)). cell_at set l x) is ∙ grown_at set old count x in
+    record { free = sym (same at) ∙ a.free; stands = a.stands; elsewhere = λ x differ. a.elsewhere x differ ∙ same x }
 
 -- ---- appended cells rise
 
@@ -251,26 +201,32 @@ lower : (x at p n o off letter : ℕ) → x ≡ letter * 2 ^ 28 + p * 2 ^ 12 + o
 lower x at p n o off letter first second (inl less) few = omega (arith, first, second, less, few)
 lower x at p n o off letter first second (inr last) few = omega (arith, first, second, last.0, last.1)
 
-pub above : (shapes : List Shape) (pages : List (List ℕ)) (set : SetId) (cell : Cell) (fbff fspf count at : ℕ) (old new : List (List Tile)) → AreShelved shapes pages old
-    → Appends set cell fbff fspf count at old new → (x : ℕ) (other : Cell) → StandsAt set old x other → x < at
-above shapes pages set cell fbff fspf count at old new shelved a x other s =
-    let off : ℕ = a.takes.offset in
-    let among : slice_get (grown count old) (page_at x) ≡ Some s.tiles = in_left old (replicate count (Hole 16 4080 ∷ [])) s.tiles (page_at x) s.page in
-    let first : x ≡ letter_index set.letter * 2 ^ 28 + page_at x * 2 ^ 12 + offset_at x = decoded x ∙ ap (λ (n : ℕ). n * 2 ^ 28 + page_at x * 2 ^ 12 + offset_at x) s.letter in
-    let below : (page_at x < a.n) ⊎ ((page_at x ≡ a.n) × (offset_at x < off)) = elim (cases_lt (page_at x) a.n) [
+pub above : (shapes : List Shape) (set : SetId) (fbff count at n off room : ℕ) (before : List Tile) (old : List (List Tile)) → at ≡ letter_index set.letter * 2 ^ 28 + n * 2 ^ 12 + off
+    → slice_get (grown count old) n ≡ Some (before ++ Hole off room ∷ []) → AreTilesFrom shapes 16 false (before ++ Hole off room ∷ [])
+    → ((k : ℕ) (others : List Tile) → n < k → slice_get (grown count old) k ≡ Some others → IsLeftEmpty fbff k others)
+    → (x : ℕ) (other : Cell) → cell_at set old x ≡ Some other → x < at
+above shapes set fbff count at n off room before old address was are behind x other is =
+    let there = stood_at set (grown count old) x other (grown_at set old count x ∙ is) in
+    let (tiles, among, cell) = there.1 in
+    let first : x ≡ letter_index set.letter * 2 ^ 28 + page_at x * 2 ^ 12 + offset_at x = decoded x ∙ ap (λ (m : ℕ). m * 2 ^ 28 + page_at x * 2 ^ 12 + offset_at x) there.0 in
+    let below : (page_at x < n) ⊎ ((page_at x ≡ n) × (offset_at x < off)) = elim (cases_lt (page_at x) n) [
       | inl less ↦ inl less
-      | inr past ↦ elim (cases_eq (page_at x) a.n) [
-        | inl same ↦ inr (
-          same,
-          let tiles : s.tiles ≡ a.before ++ (Hole off a.room ∷ []) = some_is s.tiles (a.before ++ (Hole off a.room ∷ [])) (sym among ∙ ap (slice_get (grown count old)) same ∙ a.takes.replaced.was) in
-              let are : AreTilesFrom shapes 16 false (a.before ++ (Hole off a.room ∷ [])) = subst (AreTilesFrom shapes 16 false) tiles (page_tiled shapes pages old (page_at x) s.tiles shelved s.page) in
-              let begins : off ≡ 16 + length (spelled a.before) = (behind shapes 16 false a.before (Hole off a.room ∷ []) are).0.0 in
-              elim (in_cases a.before (Hole off a.room ∷ []) (Seg (offset_at x) other) (s.place, ap (λ (l : List Tile). slice_get l s.place) (sym tiles) ∙ s.tile)) [
-                | inl left ↦ omega (arith, begins, before_rest shapes 16 false a.before (Hole off a.room ∷ []) (Seg (offset_at x) other) are left)
-                | inr one ↦ let wrong : Hole off a.room ≡ Seg (offset_at x) other = in_one (Hole off a.room) (Seg (offset_at x) other) one in cc
-              ],
-        )
-        | inr differ ↦ absurd (no_cell s.tiles (offset_at x) other (a.last.behind (page_at x) s.tiles (omega (arith, past, differ)) among).1 (s.place, s.tile))
+      | inr past ↦ elim (cases_eq (page_at x) n) [
+        | inl same ↦ let same_tiles : tiles ≡ before ++ Hole off room ∷ [] = some_is tiles (before ++ Hole off room ∷ []) (sym among ∙ ap (slice_get (grown count old)) same ∙ was) in
+            let all : cell_among (offset_at x) (before ++ Hole off room ∷ []) ≡ Some other = ap (cell_among (offset_at x)) (sym same_tiles) ∙ cell in
+            let front : cell_among (offset_at x) before ≡ Some other = last_none (offset_at x) before (Hole off room ∷ []) other (no_cells (offset_at x) (Hole off room ∷ []) refl) all in
+            inr (same, before_it shapes 16 false before (Hole off room) [] (offset_at x) other are front)
+        | inr differ ↦ absurd (let wrong : None ≡ Some other = sym (no_cells (offset_at x) tiles (behind (page_at x) tiles (omega (arith, past, differ)) among).1) ∙ cell in cc)
       ]
     ] in
-    lower x at (page_at x) a.n (offset_at x) off (letter_index set.letter) first a.takes.address below (offset_few x)
+    lower x at (page_at x) n (offset_at x) off (letter_index set.letter) first address below (offset_few x)
+
+-- ---- addresses of cells
+
+pub not_zero : (shapes : List Shape) (set : SetId) (layout : List (List Tile)) (at : ℕ) (cell : Cell) → ((tiles : List Tile) → slice_get layout (page_at at) ≡ Some tiles → AreTilesFrom shapes 16 false tiles)
+    → cell_at set layout at ≡ Some cell → at ≢ 0
+not_zero shapes set layout at cell tiled is = λ none.
+    let (tiles, among, there) = (stood_at set layout at cell is).1 in
+    let low : offset_at at < 16 = omega (arith, none) in
+    let wrong : None ≡ Some cell = sym (none_before shapes 16 false tiles (offset_at at) (tiled tiles among) low) ∙ there in
+    cc

@@ -1,62 +1,52 @@
 -- Pages that are read one after the other, and what is known of those in front.
-use Rattle.std.proofs.Common.{◌≡◌, ℕ, zero, suc, ◌+◌, ◌⊎◌, inl, inr, List, [], ◌∷◌, ◌++◌, length, get_or, map, Some, None, refl, sym, ap, subst, ◌∙◌, arith}
+use Rattle.std.proofs.Common.{◌≡◌, ℕ, ◌+◌, ◌<◌, inl, inr, List, [], ◌∷◌, ◌++◌, length, map, take, Some, refl, sym, ap, subst, ◌∙◌, arith}
 use Rattle.std.specs.Prelude.{slice_get}
-use Rattle.std.proofs.lemmas.List.{length_push, map-append}
-use Rattle.std.proofs.lemmas.Option.{slice_get-get_or}
+use Rattle.std.proofs.lemmas.Bool.{cases_lt}
+use Rattle.std.proofs.lemmas.List.{take_more, take_all, map-append}
+use Rattle.std.proofs.lemmas.Option.{slice_get_within, get_or_from_slice_get}
 use Rattle.hal_base.specs.declared.place.Shape.{Shape}
-use Rattle.segment_blocks.specs.declared.tile.Tile.{Tile}
 use Rattle.segment_blocks.specs.Tiling.{IsTiling}
+use Rattle.segment_blocks.specs.TilesOf.{tiles_of}
+use Rattle.segment_blocks.proofs.TilesOf.{tiling_is}
 use Rattle.free_space.specs.declared.space.Space.{Space}
 use Rattle.free_space.specs.Space.{space_of}
-use Rattle.free_space.specs.Store.{KnowsLayout}
+use Rattle.free_space.specs.Map.{layout_of}
+use Rattle.free_space.specs.Store.{Knows}
 use Rattle.free_space.specs.Opening.{IsSpaceOf, BreaksAt, FirstBreaksAt}
+use Rattle.free_space.proofs.Told.{some_is, layout_push}
 
 -- the first n pages are tiled, and these are their numbers
 pub record KnowsFront (shapes : List Shape) (pages : List (List ℕ)) (n : ℕ) (spaces : List Space) : Type 0 where
-  pub layout : List (List Tile)
-  pub many : length layout ≡ n
-  pub each : (k : ℕ) (page : List ℕ) (tiles : List Tile) → slice_get pages k ≡ Some page → slice_get layout k ≡ Some tiles → IsTiling shapes page tiles
-  pub spaces_are : spaces ≡ map space_of layout
-
-pub some_is : {X : Type 0} (x y : X) → Some x ≡ Some y → x ≡ y
-some_is {X} x y is = cc
-
-pub push_cases : {X : Type 0} (xs : List X) (x y : X) (k : ℕ) → slice_get (xs ++ x ∷ []) k ≡ Some y → (slice_get xs k ≡ Some y) ⊎ ((k ≡ length xs) × (x ≡ y))
-push_cases [] x y zero is = inr (refl, some_is x y is)
-push_cases [] x y (suc k) is = absurd (let wrong : None ≡ Some y = is in cc)
-push_cases (z ∷ xs) x y zero is = inl is
-push_cases (z ∷ xs) x y (suc k) is =
-    elim (push_cases xs x y k is) [
-      | inl before ↦ inl before
-      | inr last ↦ inr (ap suc last.0, last.1)
-    ]
+  pub tiled : (k : ℕ) (page : List ℕ) → k < n → slice_get pages k ≡ Some page → IsTiling shapes page (tiles_of shapes page)
+  pub spaces_are : spaces ≡ map space_of (layout_of shapes (take n pages))
 
 pub front_none : (shapes : List Shape) (pages : List (List ℕ)) → KnowsFront shapes pages 0 []
-front_none shapes pages = record { layout = []; many = refl; each = λ k page tiles among at. absurd (let wrong : None ≡ Some tiles = at in cc); spaces_are = refl }
+front_none shapes pages = record { tiled = λ k page below among. absurd (omega (arith, below)); spaces_are = refl }
 
 pub front_more : (shapes : List Shape) (pages : List (List ℕ)) (n : ℕ) (spaces : List Space) (space : Space) → KnowsFront shapes pages n spaces → IsSpaceOf shapes pages n space
     → KnowsFront shapes pages (n + 1) (spaces ++ space ∷ [])
-front_more shapes pages n spaces space front is = record {
-  layout = front.layout ++ is.tiles ∷ [];
-  many = length_push front.layout is.tiles ∙ ap (λ (m : ℕ). m + 1) front.many;
-  each = λ k page tiles among at. elim (push_cases front.layout is.tiles tiles k at) [
-    | inl before ↦ front.each k page tiles among before
-    | inr last ↦ let here : k ≡ n = last.0 ∙ front.many in
-        let same : is.page ≡ page = some_is is.page page (sym is.among ∙ ap (λ (m : ℕ). slice_get pages m) (sym here) ∙ among) in
-        subst (λ (t : List Tile). IsTiling shapes page t) last.1 (subst (λ (p : List ℕ). IsTiling shapes p is.tiles) same is.is)
-  ];
-  spaces_are = ap (λ (l : List Space). l ++ space ∷ []) front.spaces_are ∙ ap (λ (s : Space). map space_of front.layout ++ s ∷ []) is.numbers ∙ sym (map-append space_of front.layout (is.tiles ∷ []));
-}
+front_more shapes pages n spaces space front is =
+    let one_more : take (n + 1) pages ≡ take n pages ++ is.page ∷ [] = take_more pages n [] (slice_get_within pages n is.page is.among) ∙ ap (λ (p : List ℕ). take n pages ++ p ∷ []) (get_or_from_slice_get pages n is.page [] is.among) in
+    record {
+      tiled = λ k page below among. elim (cases_lt k n) [
+        | inl before ↦ front.tiled k page before among
+        | inr behind ↦ let last : n ≡ k = omega (arith, below, behind) in
+            let same : is.page ≡ page = some_is is.page page (sym is.among ∙ ap (slice_get pages) last ∙ among) in
+            subst (λ (p : List ℕ). IsTiling shapes p (tiles_of shapes p)) same (subst (IsTiling shapes is.page) (tiling_is shapes is.page is.tiles is.is) is.is)
+      ];
+      spaces_are = ap (λ (l : List Space). l ++ space ∷ []) front.spaces_are ∙ ap (λ (s : Space). map space_of (layout_of shapes (take n pages)) ++ s ∷ []) is.numbers
+          ∙ sym (map-append space_of (layout_of shapes (take n pages)) (is.tiles ∷ []))
+          ∙ ap (map space_of) (sym (ap (layout_of shapes) one_more ∙ layout_push shapes (take n pages) is.page is.tiles is.is));
+    }
 
-pub front_all : (shapes : List Shape) (pages : List (List ℕ)) (n : ℕ) (spaces : List Space) → KnowsFront shapes pages n spaces → n ≡ length pages → KnowsLayout shapes pages spaces
+pub front_all : (shapes : List Shape) (pages : List (List ℕ)) (n : ℕ) (spaces : List Space) → KnowsFront shapes pages n spaces → n ≡ length pages → Knows shapes spaces pages
 front_all shapes pages n spaces front all = record {
-  layout = front.layout;
-  is = record { many = front.many ∙ all; each = front.each };
-  spaces_are = front.spaces_are;
+  tiled = λ k page among. front.tiled k page (omega (arith, slice_get_within pages k page among, all)) among;
+  spaces_are = front.spaces_are ∙ ap (λ (l : List (List ℕ)). map space_of (layout_of shapes l)) (take_all n pages (omega (arith, all)));
 }
 
 pub front_breaks : (shapes : List Shape) (pages : List (List ℕ)) (n offset : ℕ) (spaces : List Space) → KnowsFront shapes pages n spaces → BreaksAt shapes pages n offset → FirstBreaksAt shapes pages n offset
 front_breaks shapes pages n offset spaces front breaks = record {
   breaks = breaks;
-  before = λ k page below among. (get_or front.layout k [], front.each k page (get_or front.layout k []) among (slice_get-get_or front.layout k [] (omega (arith, front.many, below))));
+  before = λ k page below among. (tiles_of shapes page, front.tiled k page below among);
 }

@@ -2,9 +2,9 @@ pub mod Address
 pub mod Space
 pub mod Gaps
 pub mod Clearing
-pub mod Layout
+pub mod Map
 pub mod Changes
 pub mod Placing
 pub mod Store
 pub mod Opening
-pub mod MapView
+pub mod OneProof

@@ -10,6 +10,7 @@ use Rattle.free_space.specs.Address.{address}
 use Rattle.free_space.specs.Space.{largest_hole, free_bytes, last_hole, AreHoles}
 use Rattle.free_space.specs.Gaps.{left_over}
 use Rattle.free_space.specs.Changes.{Replaces}
+use Rattle.free_space.specs.Map.{Adds, cell_at}
 
 abbrev pub length_of : Cell → ℕ
 length_of cell = cell_length (shape_of cell)
@@ -24,6 +25,7 @@ pub record TakesHole (set : SetId) (cell : Cell) (at n : ℕ) (before : List Til
   pub address : at ≡ address set n offset
   pub fits : length_of cell ≤ room
   pub replaced : Replaces old new n before (Hole offset room ∷ []) (Seg offset cell ∷ left_over (offset + length_of cell) (room - length_of cell)) after
+  pub adds : Adds at cell (cell_at set old) (cell_at set new)
 
 -- no page has a hole in which so many bytes have place
 abbrev pub NoHoleFits : ℕ → List (List Tile) → Type 0
@@ -38,8 +40,8 @@ pub record Places (set : SetId) (cell : Cell) (count at : ℕ) (old new : List (
   pub takes : TakesHole set cell at n before room after (grown count old) new
   pub lower_pages : (k : ℕ) (tiles : List Tile) → k < n → slice_get (grown count old) k ≡ Some tiles → largest_hole tiles < length_of cell
   pub lower_holes : largest_hole before < length_of cell
-  pub few : count ≤ 1
   pub needed : 0 < count → NoHoleFits (length_of cell) old
+  pub adds : Adds at cell (cell_at set old) (cell_at set new)
 
 -- FRSPC, as IMS has it: fbff leaves each page empty whose number, from 1, is a multiple of it
 abbrev pub is_due : ℕ → ℕ → Bool
@@ -68,8 +70,8 @@ NoPlace fbff fspf len layout = (n : ℕ) (tiles : List Tile) → IsLastPage fbff
 abbrev pub opened_pages : ℕ → ℕ → ℕ
 opened_pages fbff count = if is_due fbff count then 2 else 1
 
--- the cell goes past the last cell of the last page that isn't left empty; new pages are opened where that has no
--- place, and then fspf isn't asked for
+-- The cell goes past the last cell of the last page that isn't left empty, to an address above all others. Where that
+-- page has no place, as many pages are opened as the rule says, and the last of them takes the cell, whatever fspf is.
 pub record Appends (set : SetId) (cell : Cell) (fbff fspf count at : ℕ) (old new : List (List Tile)) : Type 0 where
   pub n : ℕ
   pub before : List Tile
@@ -78,8 +80,10 @@ pub record Appends (set : SetId) (cell : Cell) (fbff fspf count at : ℕ) (old n
   pub takes : TakesHole set cell at n before room [] (grown count old) new
   pub last : IsLastPage fbff (grown count old) n tiles
   pub place : count ≡ 0 → HasPlace fspf (length_of cell) tiles
-  pub few : count ≤ opened_pages fbff (length old)
   pub needed : 0 < count → NoPlace fbff fspf (length_of cell) old
+  pub opened : 0 < count → (count ≡ opened_pages fbff (length old)) × (n + 1 ≡ length old + count)
+  pub adds : Adds at cell (cell_at set old) (cell_at set new)
+  pub above : (other : ℕ) (standing : Cell) → cell_at set old other ≡ Some standing → other < at
 
 -- in page n the cell takes the lowest hole in which it has place
 pub record PlacesIn (set : SetId) (cell : Cell) (at n : ℕ) (old new : List (List Tile)) : Type 0 where

@@ -1,34 +1,80 @@
 -- A store of cells beside the shelf that holds its pages.
-use Rattle.std.specs.Prelude.{◌≡◌, ℕ, ◌-◌, ◌<◌, List, ◌++◌, length, map, slice_get, Option, Some}
+use Rattle.std.specs.Prelude.{◌≡◌, ℕ, ◌-◌, ◌<◌, ◌≤◌, List, length, map, take, slice_get, slice_set, Option, Some}
+use Rattle.std.specs.Option.{option_map}
 use Rattle.hal_base.specs.declared.pages.SetId.{SetId}
 use Rattle.hal_base.specs.declared.place.Shape.{Shape}
-use Rattle.hal_base.specs.Pages.{SameOthers}
+use Rattle.hal_base.specs.ShelfCalls.{ShelfView, GrownBy, SameHeads}
 use Rattle.segment_blocks.specs.declared.tile.Cell.{Cell}
 use Rattle.segment_blocks.specs.declared.tile.Tile.{Tile}
-use Rattle.segment_blocks.specs.Tiling.{shape_of}
+use Rattle.segment_blocks.specs.Tiling.{shape_of, IsTiling}
+use Rattle.segment_blocks.specs.TilesOf.{tiles_of}
 use Rattle.free_space.specs.declared.space.Space.{Space}
+use Rattle.free_space.specs.declared.store.CellStore.{CellStore}
 use Rattle.free_space.specs.Space.{space_of}
-use Rattle.free_space.specs.Layout.{IsLayout}
+use Rattle.free_space.specs.Map.{layout_of, cell_at}
+use Rattle.free_space.specs.Placing.{grown}
 
--- the numbers that a store keeps of each page are those of the layout
-pub record KnowsLayout (shapes : List Shape) (pages : List (List ℕ)) (spaces : List Space) : Type 0 where
-  pub layout : List (List Tile)
-  pub is : IsLayout shapes pages layout
-  pub spaces_are : spaces ≡ map space_of layout
+-- each page's body is tiled
+abbrev pub AreTiled : List Shape → List (List ℕ) → Type 0
+AreTiled shapes pages = (n : ℕ) (page : List ℕ) → slice_get pages n ≡ Some page → IsTiling shapes page (tiles_of shapes page)
 
--- the store stands for its data set as the shelf has it: it knows how many pages there are, and where they are told
--- the numbers of each
-pub record StandsFor (set : SetId) (shapes : List Shape) (spaces : List Space) (pages : SetId → Option (List (List ℕ))) (places : SetId → List ℕ) : Type 0 where
-  pub many : length spaces ≡ length (places set)
-  pub told : (all : List (List ℕ)) → pages set ≡ Some all → KnowsLayout shapes all spaces
+-- the numbers that a store keeps of each page are those of its tiles
+pub record Knows (shapes : List Shape) (spaces : List Space) (pages : List (List ℕ)) : Type 0 where
+  pub tiled : AreTiled shapes pages
+  pub spaces_are : spaces ≡ map space_of (layout_of shapes pages)
 
--- so many blocks were taken from the front of the free ones, for pages behind those of the data set
-pub record Grows (set : SetId) (count : ℕ) (free free_now : List ℕ) (places places_now : SetId → List ℕ) : Type 0 where
-  pub blocks : List ℕ
-  pub many : length blocks ≡ count
-  pub taken : free ≡ blocks ++ free_now
-  pub placed : places_now set ≡ places set ++ blocks
-  pub others : SameOthers set places places_now
+-- The store stands for its data set as the shelf has it: it knows how many pages there are, and where they are told the
+-- numbers of each. It is a fact with one proof (StandsFor-prop), so that a type can keep it.
+pub record StandsFor (store : CellStore) (shelf : ShelfView) : Type 0 where
+  pub many : length store.spaces.items ≡ length (shelf.places store.set)
+  pub told : (pages : List (List ℕ)) → shelf.pages store.set ≡ Some pages → Knows store.shapes store.spaces.items pages
+
+-- the store has the data set and the types that it had, and stands for that set
+pub record StaysOpen (before now : CellStore) (shelf : ShelfView) : Type 0 where
+  pub set : now.set ≡ before.set
+  pub shapes : now.shapes ≡ before.shapes
+  pub stands : StandsFor now shelf
+
+-- a page has the first sixteen bytes of another
+abbrev pub SameFront : List ℕ → List ℕ → Type 0
+SameFront page now = take 16 now ≡ take 16 page
+
+-- the pages are told still, each has the head that it had, and their tiles have changed so
+pub record Becomes (set : SetId) (shapes : List Shape) (pages : List (List ℕ)) (told : Option (List (List ℕ))) (Leads : List (List Tile) → List (List Tile) → Type 0) : Type 0 where
+  pub now : List (List ℕ)
+  pub are : told ≡ Some now
+  pub heads : SameHeads SameFront 1 set pages now
+  pub more : length pages ≤ length now
+  pub leads : Leads (layout_of shapes pages) (layout_of shapes now)
+
+-- so where the pages of the store's set are told
+abbrev pub Relays : CellStore → ShelfView → ShelfView → (List (List Tile) → List (List Tile) → Type 0) → Type 0
+Relays store old new Leads = (pages : List (List ℕ)) → old.pages store.set ≡ Some pages → Becomes store.set store.shapes pages (new.pages store.set) Leads
+
+-- how many pages a set has got
+abbrev pub added : SetId → ShelfView → ShelfView → ℕ
+added set old new = length (new.places set) - length (old.places set)
+
+-- so many empty pages were added behind those of the set
+pub record GrewBy (count : ℕ) (store : CellStore) (old new : ShelfView) : Type 0 where
+  pub blocks : GrownBy count store.set old new
+  pub tiles : Relays store old new (λ layout now. now ≡ grown count layout)
+
+-- where the pages are told, some cell with this property stands at the address
+abbrev pub HoldsAt : CellStore → ShelfView → ℕ → (Cell → Type 0) → Type 0
+HoldsAt store shelf at P = (pages : List (List ℕ)) → shelf.pages store.set ≡ Some pages → (cell : Cell) × (cell_at store.set (layout_of store.shapes pages) at ≡ Some cell) × P cell
+
+-- where the pages are told, this is what stands at the address, a cell or none
+abbrev pub StandsAt : CellStore → ShelfView → ℕ → Option Cell → Type 0
+StandsAt store shelf at found = (pages : List (List ℕ)) → shelf.pages store.set ≡ Some pages → cell_at store.set (layout_of store.shapes pages) at ≡ found
+
+-- where the pages are told, page n is this block
+abbrev pub IsPage : SetId → ℕ → List ℕ → ShelfView → Type 0
+IsPage set n block shelf = (pages : List (List ℕ)) → shelf.pages set ≡ Some pages → slice_get pages n ≡ Some block
+
+-- page n of a set has become this block
+abbrev pub HasPut : SetId → ℕ → List ℕ → ShelfView → ShelfView → Type 0
+HasPut set n block old new = new.pages set ≡ option_map (λ pages. slice_set pages n block) (old.pages set)
 
 -- a cell that can be stored: its code is that of a type, whose shape it has
 pub record IsTyped (shapes : List Shape) (cell : Cell) : Type 0 where

@@ -1,6 +1,6 @@
 // The address of a cell: four bytes that hold the data set's letter, the page and the offset in it.
-ghost use Rattle.std.specs.Prelude.{◌≡◌, ◌<◌};
-ghost use Rattle.free_space.specs.Address.{address, page_at, offset_at};
+ghost use Rattle.std.specs.Prelude.{◌≡◌, ◌<◌, ◌/◌, ◌^◌, ◌==◌};
+ghost use Rattle.free_space.specs.Address.{address, letter_index, page_at, offset_at};
 
 use hal_base::SetId;
 
@@ -10,6 +10,13 @@ pub(crate) fn address_of(set: SetId, page: u16, offset: u16) -> u32
 {
     let letter = set.letter.saturating_sub(b'A') % 12;
     (u32::from(letter) << 28) + (u32::from(page) << 12) + u32::from(offset)
+}
+
+/// The address has the letter of the data set.
+pub(crate) fn has_letter(set: SetId, at: u32) -> bool
+    ensures { result ≡ (at / 2 ^ 28 == letter_index set.letter) }
+{
+    at >> 28 == u32::from(set.letter.saturating_sub(b'A') % 12)
 }
 
 pub(crate) fn page_of(at: u32) -> u16

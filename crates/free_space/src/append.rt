@@ -1,18 +1,16 @@
 // A new cell past the last cell of the data set.
-ghost use Rattle.std.specs.Prelude.{◌≡◌, ◌≢◌, ℕ, ◌+◌, ◌-◌, ◌<◌, ◌≤◌, ◌∷◌, ◌++◌, [], List as ListOf, length, take, drop, slice_get, Some, true, false, IfOk, IfSome, IfNone, OnOk, OnErr, IsErrOf, IsTrue, ◌^◌, ◌↔◌};
-ghost use Rattle.hal_base.specs.Fault.{HasCauseFor};
-ghost use Rattle.hal_base.specs.Pages.{SameSets, SameOthers};
-ghost use Rattle.segment_blocks.specs.declared.tile.Tile.{Tile as TileOf};
+ghost use Rattle.std.specs.Prelude.{◌≡◌, ◌≢◌, ℕ, ◌+◌, ◌-◌, ◌<◌, ◌≤◌, ◌^◌, List as ListOf, length, slice_get, Some, IfOk, IfSome, IfNone, MatchResult, OnOk, OnErr, IsErrOf, IsTrue, ◌↔◌};
+ghost use Rattle.hal_base.specs.ShelfCalls.{SameShelf, Keeps, OnlyChanges, OnlyGrows};
 ghost use Rattle.free_space.specs.declared.space.Space.{Space as SpaceOf};
-ghost use Rattle.free_space.specs.Layout.{HasLayout, Relaid};
+ghost use Rattle.free_space.specs.Map.{layout_of};
 ghost use Rattle.free_space.specs.Placing.{length_of, grown, is_due, opened_pages, AppendsIn, Appends, NoPlace, IsLeft, IsLastOpen, HasRoom};
-ghost use Rattle.free_space.specs.Store.{StandsFor, Grows, IsTyped};
+ghost use Rattle.free_space.specs.Store.{StandsFor, StaysOpen, Relays, added, GrewBy, IsTyped};
 
 use crate::CellStore;
 use crate::space::Space;
 use crate::tiles::last_gap;
 use hal_base::{BLOCK, PageFault, Shelf};
-use segment_blocks::{Cell, cell_size, one_tiling};
+use segment_blocks::{Cell, cell_size};
 
 /// A page of this number is left empty by fbff, as long as no other call puts a cell there.
 fn is_due(fbff: u8, page: usize) -> bool
@@ -74,22 +72,15 @@ impl CellStore {
         page: u16,
         cell: &Cell,
     ) -> Result<u32, PageFault>
-        requires live { IsTrue (H.live shelf.old) }
-        requires stands { StandsFor self.old.set self.old.shapes self.old.spaces.items (H.pages_in shelf.old) (H.places shelf.old) }
+        requires live { IsTrue (H.seen shelf.old).live }
+        requires stands { StandsFor self.old (H.seen shelf.old) }
         requires typed { IsTyped self.old.shapes cell.now }
         requires content { length cell.now.content ≤ 2016 }
-        ensures appends_in { IfOk result (λ at. Relaid self.old.shapes (H.pages_in shelf.old self.old.set) (H.pages_in shelf.new self.old.set) (AppendsIn self.old.set cell.now at page)) }
-        ensures unchanged { OnErr result (SameSets (H.pages_in shelf.old) (H.pages_in shelf.new)) }
-        ensures others { SameOthers self.old.set (H.pages_in shelf.old) (H.pages_in shelf.new) }
+        ensures appends_in { IfOk result (λ at. Relays self.old (H.seen shelf.old) (H.seen shelf.new) (AppendsIn self.old.set cell.now at page)) }
+        ensures unchanged { OnErr result (SameShelf (H.seen shelf.old) (H.seen shelf.new)) }
         ensures room { result ≡ Err PageFault.NoRoom → ⊥ }
-        ensures set { self.new.set ≡ self.old.set }
-        ensures shapes { self.new.shapes ≡ self.old.shapes }
-        ensures stands { StandsFor self.new.set self.new.shapes self.new.spaces.items (H.pages_in shelf.new) (H.places shelf.new) }
-        ensures places { SameSets (H.places shelf.old) (H.places shelf.new) }
-        ensures free { H.free shelf.new ≡ H.free shelf.old }
-        ensures steady { H.steady shelf.old shelf.new }
-        ensures cause { HasCauseFor (H.disk_faults shelf.old) (H.disk_faults shelf.new) result PageFault.Failed }
-        ensures live { (result ≡ Err PageFault.Failed → ⊥) → IsTrue (H.live shelf.new) }
+        ensures stays { StaysOpen self.old self.new (H.seen shelf.new) }
+        ensures leaves { OnlyChanges self.old.set (H.steady shelf.old shelf.new) (IsErrOf result PageFault.Failed) (H.seen shelf.old) (H.seen shelf.new) }
     {
         let len = cell_size(self.shape_for(cell));
         let mut block = [0; BLOCK];
@@ -103,22 +94,16 @@ impl CellStore {
 
     /// Opens the page for the next cell: the next that isn't due, and before it the one that is.
     fn open_page<H: Shelf>(&mut self, shelf: &mut H, fbff: u8) -> Result<u16, PageFault>
-        requires live { IsTrue (H.live shelf.old) }
-        requires stands { StandsFor self.old.set self.old.shapes self.old.spaces.items (H.pages_in shelf.old) (H.places shelf.old) }
-        requires takes { IsTrue (H.takes shelf.old self.old.set 1) }
+        requires live { IsTrue (H.seen shelf.old).live }
+        requires stands { StandsFor self.old (H.seen shelf.old) }
+        requires takes { IsTrue ((H.seen shelf.old).takes self.old.set 1) }
         ensures number { IfOk result (λ n. n + 1 ≡ length self.old.spaces.items + opened_pages fbff (length self.old.spaces.items)) }
-        ensures grown { OnOk result (Relaid self.old.shapes (H.pages_in shelf.old self.old.set) (H.pages_in shelf.new self.old.set) (λ old new. new ≡ grown (opened_pages fbff (length self.old.spaces.items)) old)) }
-        ensures grows { OnOk result (Grows self.old.set (opened_pages fbff (length self.old.spaces.items)) (H.free shelf.old) (H.free shelf.new) (H.places shelf.old) (H.places shelf.new)) }
-        ensures no_room { IsErrOf result PageFault.NoRoom → length (H.free shelf.old) < opened_pages fbff (length self.old.spaces.items) }
-        ensures left { OnErr result ((count : ℕ) × (count ≤ 1) × Grows self.old.set count (H.free shelf.old) (H.free shelf.new) (H.places shelf.old) (H.places shelf.new)
-            × Relaid self.old.shapes (H.pages_in shelf.old self.old.set) (H.pages_in shelf.new self.old.set) (λ old new. new ≡ grown count old)) }
-        ensures others { SameOthers self.old.set (H.pages_in shelf.old) (H.pages_in shelf.new) }
-        ensures set { self.new.set ≡ self.old.set }
-        ensures shapes { self.new.shapes ≡ self.old.shapes }
-        ensures stands { StandsFor self.new.set self.new.shapes self.new.spaces.items (H.pages_in shelf.new) (H.places shelf.new) }
-        ensures steady { H.steady shelf.old shelf.new }
-        ensures cause { HasCauseFor (H.disk_faults shelf.old) (H.disk_faults shelf.new) result PageFault.Failed }
-        ensures live { (result ≡ Err PageFault.Failed → ⊥) → IsTrue (H.live shelf.new) }
+        ensures grown { MatchResult result (λ n. GrewBy (opened_pages fbff (length self.old.spaces.items)) self.old (H.seen shelf.old) (H.seen shelf.new))
+            (λ fault. GrewBy (added self.old.set (H.seen shelf.old) (H.seen shelf.new)) self.old (H.seen shelf.old) (H.seen shelf.new)) }
+        ensures few { added self.old.set (H.seen shelf.old) (H.seen shelf.new) ≤ opened_pages fbff (length self.old.spaces.items) }
+        ensures no_room { IsErrOf result PageFault.NoRoom → length (H.seen shelf.old).free < opened_pages fbff (length self.old.spaces.items) }
+        ensures stays { StaysOpen self.old self.new (H.seen shelf.new) }
+        ensures keeps { Keeps (H.steady shelf.old shelf.new) (IsErrOf result PageFault.Failed) (H.seen shelf.old) (H.seen shelf.new) }
     {
         if !is_due(fbff, self.spaces.len()) {
             return self.add_page(shelf);
@@ -137,27 +122,22 @@ impl CellStore {
         fbff: u8,
         fspf: u8,
     ) -> Result<u32, PageFault>
-        requires live { IsTrue (H.live shelf.old) }
-        requires stands { StandsFor self.old.set self.old.shapes self.old.spaces.items (H.pages_in shelf.old) (H.places shelf.old) }
-        requires takes { IsTrue (H.takes shelf.old self.old.set 1) }
+        requires live { IsTrue (H.seen shelf.old).live }
+        requires stands { StandsFor self.old (H.seen shelf.old) }
+        requires takes { IsTrue ((H.seen shelf.old).takes self.old.set 1) }
         requires typed { IsTyped self.old.shapes cell.now }
         requires content { length cell.now.content ≤ 2016 }
         requires step { fbff ≢ 1 }
-        ensures appended { IfOk result (λ at. (count : ℕ) × Grows self.old.set count (H.free shelf.old) (H.free shelf.new) (H.places shelf.old) (H.places shelf.new)
-            × Relaid self.old.shapes (H.pages_in shelf.old self.old.set) (H.pages_in shelf.new self.old.set) (Appends self.old.set cell.now fbff fspf count at)) }
-        ensures no_room { IsErrOf result PageFault.NoRoom → (length (H.free shelf.old) < opened_pages fbff (length (H.places shelf.old self.old.set)))
-            × ((layout : ListOf (ListOf TileOf)) → HasLayout self.old.shapes (H.pages_in shelf.old self.old.set) layout → NoPlace fbff fspf (length_of cell.now) layout) }
-        ensures left { OnErr result ((count : ℕ) × (count ≤ 2) × Grows self.old.set count (H.free shelf.old) (H.free shelf.new) (H.places shelf.old) (H.places shelf.new)
-            × Relaid self.old.shapes (H.pages_in shelf.old self.old.set) (H.pages_in shelf.new self.old.set) (λ old new. new ≡ grown count old)) }
-        ensures others { SameOthers self.old.set (H.pages_in shelf.old) (H.pages_in shelf.new) }
-        ensures set { self.new.set ≡ self.old.set }
-        ensures shapes { self.new.shapes ≡ self.old.shapes }
-        ensures stands { StandsFor self.new.set self.new.shapes self.new.spaces.items (H.pages_in shelf.new) (H.places shelf.new) }
-        ensures steady { H.steady shelf.old shelf.new }
-        ensures cause { HasCauseFor (H.disk_faults shelf.old) (H.disk_faults shelf.new) result PageFault.Failed }
-        ensures live { (result ≡ Err PageFault.Failed → ⊥) → IsTrue (H.live shelf.new) }
+        ensures appended { MatchResult result (λ at. Relays self.old (H.seen shelf.old) (H.seen shelf.new) (Appends self.old.set cell.now fbff fspf (added self.old.set (H.seen shelf.old) (H.seen shelf.new)) at))
+            (λ fault. Relays self.old (H.seen shelf.old) (H.seen shelf.new) (λ layout now. now ≡ grown (added self.old.set (H.seen shelf.old) (H.seen shelf.new)) layout)) }
+        ensures no_room { IsErrOf result PageFault.NoRoom → (length (H.seen shelf.old).free < opened_pages fbff (length ((H.seen shelf.old).places self.old.set)))
+            × ((pages : ListOf (ListOf ℕ)) → (H.seen shelf.old).pages self.old.set ≡ Some pages → NoPlace fbff fspf (length_of cell.now) (layout_of self.old.shapes pages)) }
+        ensures few { added self.old.set (H.seen shelf.old) (H.seen shelf.new) ≤ opened_pages fbff (length ((H.seen shelf.old).places self.old.set)) }
+        ensures opened { OnOk result (0 < added self.old.set (H.seen shelf.old) (H.seen shelf.new) →
+            added self.old.set (H.seen shelf.old) (H.seen shelf.new) ≡ opened_pages fbff (length ((H.seen shelf.old).places self.old.set))) }
+        ensures stays { StaysOpen self.old self.new (H.seen shelf.new) }
+        ensures leaves { OnlyGrows (added self.old.set (H.seen shelf.old) (H.seen shelf.new)) self.old.set (H.steady shelf.old shelf.new) (IsErrOf result PageFault.Failed) (H.seen shelf.old) (H.seen shelf.new) }
     {
-        one_tiling();
         let len = cell_size(self.shape_for(cell));
         match page_with_room(&self.spaces, fbff, fspf, len) {
             Some(page) => self.append_in(shelf, page as u16, cell),

@@ -1,21 +1,17 @@
 // One cell read, and changed where it stands.
-ghost use Rattle.std.specs.Prelude.{◌≡◌, ℕ, ◌+◌, ◌<◌, ◌≤◌, ◌∷◌, ◌++◌, [], List as ListOf, length, take, slice_get, Some, IfOk, OnOk, OnErr, IsTrue, ⊤};
-ghost use Rattle.hal_base.specs.Fault.{HasCauseFor};
-ghost use Rattle.hal_base.specs.Pages.{SameSets, SameOthers};
-ghost use Rattle.hal_base.specs.declared.place.Shape.{Shape as ShapeOf};
+ghost use Rattle.std.specs.Prelude.{◌≡◌, ◌∷◌, ◌++◌, List as ListOf, take, Some, IfOk, OnOk, OnErr, IsErrOf, IsTrue, ⊤};
+ghost use Rattle.hal_base.specs.ShelfCalls.{SameShelf, OnlyReads, OnlyChanges};
 ghost use Rattle.segment_blocks.specs.declared.tile.Cell.{Cell as CellOf};
 ghost use Rattle.segment_blocks.specs.declared.tile.Tile.{Tile as TileOf};
-ghost use Rattle.segment_blocks.specs.Tiling.{shape_of, IsTiling};
-ghost use Rattle.free_space.specs.Layout.{HasLayout, StandsAt, HoldsAt, Relaid};
+ghost use Rattle.segment_blocks.specs.Tiling.{IsTiling};
 ghost use Rattle.free_space.specs.Changes.{changed, Rewrites};
-ghost use Rattle.free_space.specs.Store.{StandsFor};
+ghost use Rattle.free_space.specs.Store.{StandsFor, Relays, HoldsAt, StandsAt};
 
 use crate::CellStore;
-use crate::address::{offset_of, page_of};
+use crate::address::{has_letter, offset_of, page_of};
 use crate::change::{Change, copy_cell};
-use crate::store::wanting;
 use crate::tiles::find_cell;
-use hal_base::{BLOCK, Bytes, Ilk, List, Memory, PageFault, Shape, Shelf};
+use hal_base::{BLOCK, Memory, PageFault, Shape, Shelf};
 use segment_blocks::{Cell, Tile, others_stand_around, write_cell};
 use std::alloc::Global;
 
@@ -48,30 +44,46 @@ fn rewrite_in(
 }
 
 impl CellStore {
-    /// The cell at an address.
-    pub fn cell<H: Shelf>(&self, shelf: &mut H, at: u32) -> Result<Cell, PageFault>
-        requires live { IsTrue (H.live shelf.old) }
-        requires stands { StandsFor self.now.set self.now.shapes self.now.spaces.items (H.pages_in shelf.old) (H.places shelf.old) }
-        requires cell { HoldsAt self.now.shapes self.now.set (H.pages_in shelf.old self.now.set) at (λ _. ⊤) }
-        ensures cell { IfOk result (λ cell. (layout : ListOf (ListOf TileOf)) → HasLayout self.now.shapes (H.pages_in shelf.old self.now.set) layout → StandsAt self.now.set layout at cell) }
+    /// What stands at an address, whatever number that is.
+    pub fn find<H: Shelf>(&self, shelf: &mut H, at: u32) -> Result<Option<Cell>, PageFault>
+        requires live { IsTrue (H.seen shelf.old).live }
+        requires stands { StandsFor self.now (H.seen shelf.old) }
+        ensures found { IfOk result (StandsAt self.now (H.seen shelf.old) at) }
         ensures room { result ≡ Err PageFault.NoRoom → ⊥ }
-        ensures stands { StandsFor self.now.set self.now.shapes self.now.spaces.items (H.pages_in shelf.new) (H.places shelf.new) }
-        ensures pages { SameSets (H.pages_in shelf.old) (H.pages_in shelf.new) }
-        ensures places { SameSets (H.places shelf.old) (H.places shelf.new) }
-        ensures free { H.free shelf.new ≡ H.free shelf.old }
-        ensures steady { H.steady shelf.old shelf.new }
-        ensures cause { HasCauseFor (H.disk_faults shelf.old) (H.disk_faults shelf.new) result PageFault.Failed }
-        ensures fetches { H.fetches shelf.new ≤ H.fetches shelf.old + 1 }
-        ensures live { (result ≡ Err PageFault.Failed → ⊥) → IsTrue (H.live shelf.new) }
+        ensures stands { StandsFor self.now (H.seen shelf.new) }
+        ensures leaves { OnlyReads 1 (H.steady shelf.old shelf.new) (IsErrOf result PageFault.Failed) (H.seen shelf.old) (H.seen shelf.new) }
     {
+        if !has_letter(self.set, at) {
+            return Ok(None);
+        }
+        let page = page_of(at);
+        if usize::from(page) >= self.spaces.len() {
+            return Ok(None);
+        }
         let mut block = [0; BLOCK];
-        let tiles = self.read_page(shelf, page_of(at), &mut block)?;
+        let tiles = self.read_page(shelf, page, &mut block)?;
         let Some((_, cell)) = find_cell(tiles.as_slice(), offset_of(at)) else {
-            return Err(PageFault::Memory);
+            return Ok(None);
         };
         match copy_cell(self.alloc, cell) {
-            Ok(cell) => Ok(cell),
+            Ok(cell) => Ok(Some(cell)),
             Err(Memory) => Err(PageFault::Memory),
+        }
+    }
+
+    /// The cell at an address.
+    pub fn cell<H: Shelf>(&self, shelf: &mut H, at: u32) -> Result<Cell, PageFault>
+        requires live { IsTrue (H.seen shelf.old).live }
+        requires stands { StandsFor self.now (H.seen shelf.old) }
+        requires cell { HoldsAt self.now (H.seen shelf.old) at (λ _. ⊤) }
+        ensures cell { IfOk result (λ cell. StandsAt self.now (H.seen shelf.old) at (Some cell)) }
+        ensures room { result ≡ Err PageFault.NoRoom → ⊥ }
+        ensures stands { StandsFor self.now (H.seen shelf.new) }
+        ensures leaves { OnlyReads 1 (H.steady shelf.old shelf.new) (IsErrOf result PageFault.Failed) (H.seen shelf.old) (H.seen shelf.new) }
+    {
+        match self.find(shelf, at)? {
+            Some(cell) => Ok(cell),
+            None => Err(PageFault::Memory),
         }
     }
 
@@ -82,18 +94,14 @@ impl CellStore {
         at: u32,
         change: Change,
     ) -> Result<(), PageFault>
-        requires live { IsTrue (H.live shelf.old) }
-        requires stands { StandsFor self.now.set self.now.shapes self.now.spaces.items (H.pages_in shelf.old) (H.places shelf.old) }
-        ensures changed { OnOk result (Relaid self.now.shapes (H.pages_in shelf.old self.now.set) (H.pages_in shelf.new self.now.set) (Rewrites at (changed change))) }
-        ensures unchanged { OnErr result (SameSets (H.pages_in shelf.old) (H.pages_in shelf.new)) }
-        ensures others { SameOthers self.now.set (H.pages_in shelf.old) (H.pages_in shelf.new) }
+        requires live { IsTrue (H.seen shelf.old).live }
+        requires stands { StandsFor self.now (H.seen shelf.old) }
+        requires cell { HoldsAt self.now (H.seen shelf.old) at (λ _. ⊤) }
+        ensures changed { OnOk result (Relays self.now (H.seen shelf.old) (H.seen shelf.new) (Rewrites self.now.set at (changed change))) }
+        ensures unchanged { OnErr result (SameShelf (H.seen shelf.old) (H.seen shelf.new)) }
         ensures room { result ≡ Err PageFault.NoRoom → ⊥ }
-        ensures stands { StandsFor self.now.set self.now.shapes self.now.spaces.items (H.pages_in shelf.new) (H.places shelf.new) }
-        ensures places { SameSets (H.places shelf.old) (H.places shelf.new) }
-        ensures free { H.free shelf.new ≡ H.free shelf.old }
-        ensures steady { H.steady shelf.old shelf.new }
-        ensures cause { HasCauseFor (H.disk_faults shelf.old) (H.disk_faults shelf.new) result PageFault.Failed }
-        ensures live { (result ≡ Err PageFault.Failed → ⊥) → IsTrue (H.live shelf.new) }
+        ensures stands { StandsFor self.now (H.seen shelf.new) }
+        ensures leaves { OnlyChanges self.now.set (H.steady shelf.old shelf.new) (IsErrOf result PageFault.Failed) (H.seen shelf.old) (H.seen shelf.new) }
     {
         let page = page_of(at);
         let mut block = [0; BLOCK];

@@ -1,15 +1,12 @@
 // A page that is added, and a cell that is put into a hole of a page that was read.
-ghost use Rattle.std.specs.Prelude.{◌≡◌, ℕ, ◌+◌, ◌-◌, ◌<◌, ◌≤◌, ◌∷◌, ◌++◌, [], List as ListOf, length, take, drop, slice_get, Some, IfOk, IfSome, IfNone, OnOk, OnErr, IsErrOf, IsTrue, vec_len};
+ghost use Rattle.std.specs.Prelude.{◌≡◌, ℕ, ◌+◌, ◌<◌, ◌≤◌, ◌∷◌, ◌++◌, [], length, take, drop, slice_get, Some, IfOk, IfSome, IfNone, MatchResult, OnOk, OnErr, IsErrOf, IsTrue, vec_len};
 ghost use Rattle.std.specs.Vec.{vec_capacity};
-ghost use Rattle.hal_base.specs.Fault.{HasCauseFor};
-ghost use Rattle.hal_base.specs.Pages.{SameSets, SameOthers};
-ghost use Rattle.segment_blocks.specs.declared.tile.Tile.{Tile as TileOf};
+ghost use Rattle.hal_base.specs.ShelfCalls.{SameShelf, Keeps, OnlyChanges};
 ghost use Rattle.segment_blocks.specs.Tiling.{shape_of, IsTiling};
 ghost use Rattle.free_space.specs.declared.space.Space.{Space as SpaceOf};
 ghost use Rattle.free_space.specs.Gaps.{IsGap};
-ghost use Rattle.free_space.specs.Layout.{HasLayout, Relaid};
-ghost use Rattle.free_space.specs.Placing.{length_of, grown, TakesHole, IsFirstWith};
-ghost use Rattle.free_space.specs.Store.{StandsFor, Grows, IsTyped};
+ghost use Rattle.free_space.specs.Placing.{length_of, TakesHole, IsFirstWith};
+ghost use Rattle.free_space.specs.Store.{StandsFor, StaysOpen, IsPage, Relays, GrewBy, IsTyped};
 
 use crate::CellStore;
 use crate::address::address_of;
@@ -47,23 +44,14 @@ impl CellStore {
 
     /// Adds an empty page at the end.
     pub(crate) fn add_page<H: Shelf>(&mut self, shelf: &mut H) -> Result<u16, PageFault>
-        requires live { IsTrue (H.live shelf.old) }
-        requires stands { StandsFor self.old.set self.old.shapes self.old.spaces.items (H.pages_in shelf.old) (H.places shelf.old) }
-        requires takes { IsTrue (H.takes shelf.old self.old.set 1) }
+        requires live { IsTrue (H.seen shelf.old).live }
+        requires stands { StandsFor self.old (H.seen shelf.old) }
+        requires takes { IsTrue ((H.seen shelf.old).takes self.old.set 1) }
         ensures number { IfOk result (λ n. n ≡ length self.old.spaces.items) }
-        ensures grown { OnOk result (Relaid self.old.shapes (H.pages_in shelf.old self.old.set) (H.pages_in shelf.new self.old.set) (λ old new. new ≡ grown 1 old)) }
-        ensures grows { OnOk result (Grows self.old.set 1 (H.free shelf.old) (H.free shelf.new) (H.places shelf.old) (H.places shelf.new)) }
-        ensures unchanged { OnErr result (SameSets (H.pages_in shelf.old) (H.pages_in shelf.new)) }
-        ensures unmoved { OnErr result (SameSets (H.places shelf.old) (H.places shelf.new)) }
-        ensures kept { OnErr result (H.free shelf.new ≡ H.free shelf.old) }
-        ensures no_room { IsErrOf result PageFault.NoRoom → H.free shelf.old ≡ [] }
-        ensures others { SameOthers self.old.set (H.pages_in shelf.old) (H.pages_in shelf.new) }
-        ensures set { self.new.set ≡ self.old.set }
-        ensures shapes { self.new.shapes ≡ self.old.shapes }
-        ensures stands { StandsFor self.new.set self.new.shapes self.new.spaces.items (H.pages_in shelf.new) (H.places shelf.new) }
-        ensures steady { H.steady shelf.old shelf.new }
-        ensures cause { HasCauseFor (H.disk_faults shelf.old) (H.disk_faults shelf.new) result PageFault.Failed }
-        ensures live { (result ≡ Err PageFault.Failed → ⊥) → IsTrue (H.live shelf.new) }
+        ensures grown { MatchResult result (λ n. GrewBy 1 self.old (H.seen shelf.old) (H.seen shelf.new)) (λ fault. SameShelf (H.seen shelf.old) (H.seen shelf.new)) }
+        ensures no_room { IsErrOf result PageFault.NoRoom → (H.seen shelf.old).free ≡ [] }
+        ensures stays { StaysOpen self.old self.new (H.seen shelf.new) }
+        ensures keeps { Keeps (H.steady shelf.old shelf.new) (IsErrOf result PageFault.Failed) (H.seen shelf.old) (H.seen shelf.new) }
     {
         let Ok(()) = make_slot(&mut self.spaces) else {
             return Err(PageFault::Memory);
@@ -88,27 +76,19 @@ impl CellStore {
         gap: Gap,
         cell: &Cell,
     ) -> Result<u32, PageFault>
-        requires live { IsTrue (H.live shelf.old) }
-        requires stands { StandsFor self.old.set self.old.shapes self.old.spaces.items (H.pages_in shelf.old) (H.places shelf.old) }
+        requires live { IsTrue (H.seen shelf.old).live }
+        requires stands { StandsFor self.old (H.seen shelf.old) }
         requires typed { IsTyped self.old.shapes cell.now }
         requires content { length cell.now.content ≤ 2016 }
         requires below { page < length self.old.spaces.items }
         requires tiling { IsTiling self.old.shapes block.old tiles.now }
         requires gap { IsGap tiles.now (length_of cell.now) gap }
-        requires read { (pages : ListOf (ListOf ℕ)) → H.pages_in shelf.old self.old.set ≡ Some pages → slice_get pages page ≡ Some block.old }
-        requires layout { (layout : ListOf (ListOf TileOf)) → HasLayout self.old.shapes (H.pages_in shelf.old self.old.set) layout → slice_get layout page ≡ Some tiles.now }
-        ensures takes { IfOk result (λ at. Relaid self.old.shapes (H.pages_in shelf.old self.old.set) (H.pages_in shelf.new self.old.set) (TakesHole self.old.set cell.now at page (take gap.place tiles.now) gap.room (drop (gap.place + 1) tiles.now))) }
-        ensures unchanged { OnErr result (SameSets (H.pages_in shelf.old) (H.pages_in shelf.new)) }
-        ensures others { SameOthers self.old.set (H.pages_in shelf.old) (H.pages_in shelf.new) }
+        requires read { IsPage self.old.set page block.old (H.seen shelf.old) }
+        ensures takes { IfOk result (λ at. Relays self.old (H.seen shelf.old) (H.seen shelf.new) (TakesHole self.old.set cell.now at page (take gap.place tiles.now) gap.room (drop (gap.place + 1) tiles.now))) }
+        ensures unchanged { OnErr result (SameShelf (H.seen shelf.old) (H.seen shelf.new)) }
         ensures room { result ≡ Err PageFault.NoRoom → ⊥ }
-        ensures set { self.new.set ≡ self.old.set }
-        ensures shapes { self.new.shapes ≡ self.old.shapes }
-        ensures stands { StandsFor self.new.set self.new.shapes self.new.spaces.items (H.pages_in shelf.new) (H.places shelf.new) }
-        ensures places { SameSets (H.places shelf.old) (H.places shelf.new) }
-        ensures free { H.free shelf.new ≡ H.free shelf.old }
-        ensures steady { H.steady shelf.old shelf.new }
-        ensures cause { HasCauseFor (H.disk_faults shelf.old) (H.disk_faults shelf.new) result PageFault.Failed }
-        ensures live { (result ≡ Err PageFault.Failed → ⊥) → IsTrue (H.live shelf.new) }
+        ensures stays { StaysOpen self.old self.new (H.seen shelf.new) }
+        ensures leaves { OnlyChanges self.old.set (H.steady shelf.old shelf.new) (IsErrOf result PageFault.Failed) (H.seen shelf.old) (H.seen shelf.new) }
     {
         let shape = self.shape_for(cell);
         fill(block, shape, gap, cell);

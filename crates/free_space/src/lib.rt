@@ -27,5 +27,5 @@ mod space;
 mod store;
 mod tiles;
 
-pub use laws::{appended_addresses_rise, each_change_is_alone};
+pub use laws::{no_cell_is_at_zero, others_leave_a_store_open};
 pub use store::CellStore;

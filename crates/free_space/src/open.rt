@@ -1,12 +1,7 @@
 // A store is opened: each page is read once.
-ghost use Rattle.std.specs.Prelude.{◌≡◌, ℕ, ◌+◌, ◌<◌, ◌≤◌, List as ListOf, length, slice_get, Some, Err, IfOk, OnErr, IsTrue};
-ghost use Rattle.hal_base.specs.Fault.{HasCauseFor};
-ghost use Rattle.hal_base.specs.Pages.{SameSets};
-ghost use Rattle.hal_base.specs.declared.place.Shape.{Shape as ShapeOf};
-ghost use Rattle.segment_blocks.specs.declared.tile.Tile.{Tile as TileOf};
-ghost use Rattle.segment_blocks.specs.Tiling.{IsTiling, StopsAt};
-ghost use Rattle.free_space.specs.Space.{space_of};
-ghost use Rattle.free_space.specs.Store.{KnowsLayout, StandsFor};
+ghost use Rattle.std.specs.Prelude.{◌≡◌, ℕ, ◌<◌, List as ListOf, length, Some, Err, IfOk, OnErr, IsErrOf, IsTrue};
+ghost use Rattle.hal_base.specs.ShelfCalls.{OnlyReads};
+ghost use Rattle.free_space.specs.Store.{Knows, StandsFor};
 ghost use Rattle.free_space.specs.Opening.{IsSpaceOf, BreaksAt, FirstBreaksAt};
 
 use crate::CellStore;
@@ -23,17 +18,12 @@ fn read_space<H: Shelf>(
     shapes: &[Shape],
     page: u16,
 ) -> Result<Space, StoreFault>
-    requires live { IsTrue (H.live shelf.old) }
-    requires below { page < length (H.places shelf.old set) }
-    ensures space { IfOk result (λ space. (pages : ListOf (ListOf ℕ)) → H.pages_in shelf.old set ≡ Some pages → IsSpaceOf shapes.now pages page space) }
+    requires live { IsTrue (H.seen shelf.old).live }
+    requires below { page < length ((H.seen shelf.old).places set) }
+    ensures space { IfOk result (λ space. (pages : ListOf (ListOf ℕ)) → (H.seen shelf.old).pages set ≡ Some pages → IsSpaceOf shapes.now pages page space) }
     ensures number { (n offset : ℕ) → result ≡ Err (StoreFault.BadTile n offset) → n ≡ page }
-    ensures bad { (n offset : ℕ) → result ≡ Err (StoreFault.BadTile n offset) → (pages : ListOf (ListOf ℕ)) → H.pages_in shelf.old set ≡ Some pages → BreaksAt shapes.now pages n offset }
-    ensures pages { SameSets (H.pages_in shelf.old) (H.pages_in shelf.new) }
-    ensures places { SameSets (H.places shelf.old) (H.places shelf.new) }
-    ensures free { H.free shelf.new ≡ H.free shelf.old }
-    ensures steady { H.steady shelf.old shelf.new }
-    ensures cause { HasCauseFor (H.disk_faults shelf.old) (H.disk_faults shelf.new) result StoreFault.Failed }
-    ensures live { (result ≡ Err StoreFault.Failed → ⊥) → IsTrue (H.live shelf.new) }
+    ensures bad { (n offset : ℕ) → result ≡ Err (StoreFault.BadTile n offset) → (pages : ListOf (ListOf ℕ)) → (H.seen shelf.old).pages set ≡ Some pages → BreaksAt shapes.now pages n offset }
+    ensures leaves { OnlyReads 1 (H.steady shelf.old shelf.new) (IsErrOf result StoreFault.Failed) (H.seen shelf.old) (H.seen shelf.new) }
 {
     let mut block = [0; BLOCK];
     if shelf.fetch_page(set, page, &mut block).is_err() {
@@ -53,16 +43,11 @@ fn read_spaces<H: Shelf>(
     set: SetId,
     shapes: &[Shape],
 ) -> Result<Vec<Space>, StoreFault>
-    requires live { IsTrue (H.live shelf.old) }
-    ensures many { IfOk result (λ spaces. length spaces.items ≡ length (H.places shelf.old set)) }
-    ensures layout { IfOk result (λ spaces. (pages : ListOf (ListOf ℕ)) → H.pages_in shelf.old set ≡ Some pages → KnowsLayout shapes.now pages spaces.items) }
-    ensures bad { (n offset : ℕ) → result ≡ Err (StoreFault.BadTile n offset) → (pages : ListOf (ListOf ℕ)) → H.pages_in shelf.old set ≡ Some pages → FirstBreaksAt shapes.now pages n offset }
-    ensures pages { SameSets (H.pages_in shelf.old) (H.pages_in shelf.new) }
-    ensures places { SameSets (H.places shelf.old) (H.places shelf.new) }
-    ensures free { H.free shelf.new ≡ H.free shelf.old }
-    ensures steady { H.steady shelf.old shelf.new }
-    ensures cause { HasCauseFor (H.disk_faults shelf.old) (H.disk_faults shelf.new) result StoreFault.Failed }
-    ensures live { (result ≡ Err StoreFault.Failed → ⊥) → IsTrue (H.live shelf.new) }
+    requires live { IsTrue (H.seen shelf.old).live }
+    ensures many { IfOk result (λ spaces. length spaces.items ≡ length ((H.seen shelf.old).places set)) }
+    ensures layout { IfOk result (λ spaces. (pages : ListOf (ListOf ℕ)) → (H.seen shelf.old).pages set ≡ Some pages → Knows shapes.now spaces.items pages) }
+    ensures bad { (n offset : ℕ) → result ≡ Err (StoreFault.BadTile n offset) → (pages : ListOf (ListOf ℕ)) → (H.seen shelf.old).pages set ≡ Some pages → FirstBreaksAt shapes.now pages n offset }
+    ensures leaves { OnlyReads (length ((H.seen shelf.old).places set)) (H.steady shelf.old shelf.new) (IsErrOf result StoreFault.Failed) (H.seen shelf.old) (H.seen shelf.new) }
 {
     let mut spaces = Vec::new(alloc);
     for page in 0..shelf.pages(set) {
@@ -93,17 +78,12 @@ impl CellStore {
         set: SetId,
         shapes: &[Shape],
     ) -> Result<CellStore, StoreFault>
-        requires live { IsTrue (H.live shelf.old) }
-        ensures opened { IfOk result (λ store. StandsFor store.set store.shapes store.spaces.items (H.pages_in shelf.new) (H.places shelf.new)) }
+        requires live { IsTrue (H.seen shelf.old).live }
+        ensures opened { IfOk result (λ store. StandsFor store (H.seen shelf.new)) }
         ensures set { IfOk result (λ store. store.set ≡ set) }
         ensures shapes { IfOk result (λ store. store.shapes ≡ shapes.now) }
-        ensures bad { (n offset : ℕ) → result ≡ Err (StoreFault.BadTile n offset) → (pages : ListOf (ListOf ℕ)) → H.pages_in shelf.old set ≡ Some pages → FirstBreaksAt shapes.now pages n offset }
-        ensures pages { SameSets (H.pages_in shelf.old) (H.pages_in shelf.new) }
-        ensures places { SameSets (H.places shelf.old) (H.places shelf.new) }
-        ensures free { H.free shelf.new ≡ H.free shelf.old }
-        ensures steady { H.steady shelf.old shelf.new }
-        ensures cause { HasCauseFor (H.disk_faults shelf.old) (H.disk_faults shelf.new) result StoreFault.Failed }
-        ensures live { (result ≡ Err StoreFault.Failed → ⊥) → IsTrue (H.live shelf.new) }
+        ensures bad { (n offset : ℕ) → result ≡ Err (StoreFault.BadTile n offset) → (pages : ListOf (ListOf ℕ)) → (H.seen shelf.old).pages set ≡ Some pages → FirstBreaksAt shapes.now pages n offset }
+        ensures leaves { OnlyReads (length ((H.seen shelf.old).places set)) (H.steady shelf.old shelf.new) (IsErrOf result StoreFault.Failed) (H.seen shelf.old) (H.seen shelf.new) }
     {
         let shapes = kept_shapes(alloc, shapes)?;
         let spaces = read_spaces(alloc, shelf, set, shapes.as_slice())?;

@@ -1,17 +1,15 @@
 // A new cell in the lowest hole in which it has place.
-ghost use Rattle.std.specs.Prelude.{◌≡◌, ℕ, ◌+◌, ◌-◌, ◌<◌, ◌≤◌, ◌∷◌, ◌++◌, [], List as ListOf, length, take, drop, slice_get, Some, IfOk, OnOk, OnErr, IsErrOf, IsTrue};
-ghost use Rattle.hal_base.specs.Fault.{HasCauseFor};
-ghost use Rattle.hal_base.specs.Pages.{SameSets, SameOthers};
-ghost use Rattle.segment_blocks.specs.declared.tile.Tile.{Tile as TileOf};
-ghost use Rattle.free_space.specs.Layout.{HasLayout, Relaid};
+ghost use Rattle.std.specs.Prelude.{◌≡◌, ◌≢◌, ℕ, ◌+◌, ◌<◌, ◌≤◌, [], List as ListOf, length, Some, IfOk, MatchResult, OnOk, OnErr, IsErrOf, IsTrue};
+ghost use Rattle.hal_base.specs.ShelfCalls.{SameShelf, OnlyChanges, OnlyGrows};
+ghost use Rattle.free_space.specs.Map.{layout_of};
 ghost use Rattle.free_space.specs.Placing.{length_of, grown, NoHoleFits, PlacesIn, Places};
-ghost use Rattle.free_space.specs.Store.{StandsFor, Grows, IsTyped};
+ghost use Rattle.free_space.specs.Store.{StandsFor, StaysOpen, Relays, added, IsTyped};
 
 use crate::CellStore;
 use crate::growing::first_page;
 use crate::tiles::first_gap;
 use hal_base::{BLOCK, PageFault, Shelf};
-use segment_blocks::{Cell, cell_size, one_tiling};
+use segment_blocks::{Cell, cell_size};
 
 impl CellStore {
     fn place_in<H: Shelf>(
@@ -20,22 +18,15 @@ impl CellStore {
         page: u16,
         cell: &Cell,
     ) -> Result<u32, PageFault>
-        requires live { IsTrue (H.live shelf.old) }
-        requires stands { StandsFor self.old.set self.old.shapes self.old.spaces.items (H.pages_in shelf.old) (H.places shelf.old) }
+        requires live { IsTrue (H.seen shelf.old).live }
+        requires stands { StandsFor self.old (H.seen shelf.old) }
         requires typed { IsTyped self.old.shapes cell.now }
         requires content { length cell.now.content ≤ 2016 }
-        ensures places_in { IfOk result (λ at. Relaid self.old.shapes (H.pages_in shelf.old self.old.set) (H.pages_in shelf.new self.old.set) (PlacesIn self.old.set cell.now at page)) }
-        ensures unchanged { OnErr result (SameSets (H.pages_in shelf.old) (H.pages_in shelf.new)) }
-        ensures others { SameOthers self.old.set (H.pages_in shelf.old) (H.pages_in shelf.new) }
+        ensures places_in { IfOk result (λ at. Relays self.old (H.seen shelf.old) (H.seen shelf.new) (PlacesIn self.old.set cell.now at page)) }
+        ensures unchanged { OnErr result (SameShelf (H.seen shelf.old) (H.seen shelf.new)) }
         ensures room { result ≡ Err PageFault.NoRoom → ⊥ }
-        ensures set { self.new.set ≡ self.old.set }
-        ensures shapes { self.new.shapes ≡ self.old.shapes }
-        ensures stands { StandsFor self.new.set self.new.shapes self.new.spaces.items (H.pages_in shelf.new) (H.places shelf.new) }
-        ensures places { SameSets (H.places shelf.old) (H.places shelf.new) }
-        ensures free { H.free shelf.new ≡ H.free shelf.old }
-        ensures steady { H.steady shelf.old shelf.new }
-        ensures cause { HasCauseFor (H.disk_faults shelf.old) (H.disk_faults shelf.new) result PageFault.Failed }
-        ensures live { (result ≡ Err PageFault.Failed → ⊥) → IsTrue (H.live shelf.new) }
+        ensures stays { StaysOpen self.old self.new (H.seen shelf.new) }
+        ensures leaves { OnlyChanges self.old.set (H.steady shelf.old shelf.new) (IsErrOf result PageFault.Failed) (H.seen shelf.old) (H.seen shelf.new) }
     {
         let len = cell_size(self.shape_for(cell));
         let mut block = [0; BLOCK];
@@ -50,27 +41,19 @@ impl CellStore {
     /// Stores a cell in the lowest hole in which it has place, and answers its address. `NoRoom` comes where no hole
     /// has place for it and no block is free.
     pub fn place<H: Shelf>(&mut self, shelf: &mut H, cell: &Cell) -> Result<u32, PageFault>
-        requires live { IsTrue (H.live shelf.old) }
-        requires stands { StandsFor self.old.set self.old.shapes self.old.spaces.items (H.pages_in shelf.old) (H.places shelf.old) }
-        requires takes { IsTrue (H.takes shelf.old self.old.set 1) }
+        requires live { IsTrue (H.seen shelf.old).live }
+        requires stands { StandsFor self.old (H.seen shelf.old) }
+        requires takes { IsTrue ((H.seen shelf.old).takes self.old.set 1) }
         requires typed { IsTyped self.old.shapes cell.now }
         requires content { length cell.now.content ≤ 2016 }
-        ensures placed { IfOk result (λ at. (count : ℕ) × Grows self.old.set count (H.free shelf.old) (H.free shelf.new) (H.places shelf.old) (H.places shelf.new)
-            × Relaid self.old.shapes (H.pages_in shelf.old self.old.set) (H.pages_in shelf.new self.old.set) (Places self.old.set cell.now count at)) }
-        ensures no_room { IsErrOf result PageFault.NoRoom → (H.free shelf.old ≡ [])
-            × ((layout : ListOf (ListOf TileOf)) → HasLayout self.old.shapes (H.pages_in shelf.old self.old.set) layout → NoHoleFits (length_of cell.now) layout)
-            × SameSets (H.pages_in shelf.old) (H.pages_in shelf.new) × SameSets (H.places shelf.old) (H.places shelf.new) × (H.free shelf.new ≡ H.free shelf.old) }
-        ensures left { OnErr result ((count : ℕ) × (count ≤ 1) × Grows self.old.set count (H.free shelf.old) (H.free shelf.new) (H.places shelf.old) (H.places shelf.new)
-            × Relaid self.old.shapes (H.pages_in shelf.old self.old.set) (H.pages_in shelf.new self.old.set) (λ old new. new ≡ grown count old)) }
-        ensures others { SameOthers self.old.set (H.pages_in shelf.old) (H.pages_in shelf.new) }
-        ensures set { self.new.set ≡ self.old.set }
-        ensures shapes { self.new.shapes ≡ self.old.shapes }
-        ensures stands { StandsFor self.new.set self.new.shapes self.new.spaces.items (H.pages_in shelf.new) (H.places shelf.new) }
-        ensures steady { H.steady shelf.old shelf.new }
-        ensures cause { HasCauseFor (H.disk_faults shelf.old) (H.disk_faults shelf.new) result PageFault.Failed }
-        ensures live { (result ≡ Err PageFault.Failed → ⊥) → IsTrue (H.live shelf.new) }
+        ensures placed { MatchResult result (λ at. Relays self.old (H.seen shelf.old) (H.seen shelf.new) (Places self.old.set cell.now (added self.old.set (H.seen shelf.old) (H.seen shelf.new)) at))
+            (λ fault. Relays self.old (H.seen shelf.old) (H.seen shelf.new) (λ layout now. now ≡ grown (added self.old.set (H.seen shelf.old) (H.seen shelf.new)) layout)) }
+        ensures no_room { IsErrOf result PageFault.NoRoom → ((H.seen shelf.old).free ≡ []) × SameShelf (H.seen shelf.old) (H.seen shelf.new)
+            × ((pages : ListOf (ListOf ℕ)) → (H.seen shelf.old).pages self.old.set ≡ Some pages → NoHoleFits (length_of cell.now) (layout_of self.old.shapes pages)) }
+        ensures few { added self.old.set (H.seen shelf.old) (H.seen shelf.new) ≤ 1 }
+        ensures stays { StaysOpen self.old self.new (H.seen shelf.new) }
+        ensures leaves { OnlyGrows (added self.old.set (H.seen shelf.old) (H.seen shelf.new)) self.old.set (H.steady shelf.old shelf.new) (IsErrOf result PageFault.Failed) (H.seen shelf.old) (H.seen shelf.new) }
     {
-        one_tiling();
         let len = cell_size(self.shape_for(cell));
         match first_page(&self.spaces, len) {
             Some(page) => self.place_in(shelf, page as u16, cell),

@@ -1,10 +1,8 @@
 // The changes of one cell. It keeps its place, and all other cells stay.
-ghost use Rattle.std.specs.Prelude.{◌≡◌, ℕ, ◌<◌, true, length, OnOk, OnErr, IsTrue, ⊤};
-ghost use Rattle.hal_base.specs.Fault.{HasCauseFor};
-ghost use Rattle.hal_base.specs.Pages.{SameSets, SameOthers};
-ghost use Rattle.free_space.specs.Layout.{HoldsAt, Relaid};
+ghost use Rattle.std.specs.Prelude.{◌≡◌, true, length, OnOk, OnErr, IsErrOf, IsTrue, ⊤};
+ghost use Rattle.hal_base.specs.ShelfCalls.{SameShelf, OnlyChanges};
 ghost use Rattle.free_space.specs.Changes.{Rewrites};
-ghost use Rattle.free_space.specs.Store.{StandsFor};
+ghost use Rattle.free_space.specs.Store.{StandsFor, Relays, HoldsAt};
 
 use crate::CellStore;
 use crate::change::Change;
@@ -19,19 +17,14 @@ impl CellStore {
         twin: u32,
         children: &List<u32>,
     ) -> Result<(), PageFault>
-        requires live { IsTrue (H.live shelf.old) }
-        requires stands { StandsFor self.now.set self.now.shapes self.now.spaces.items (H.pages_in shelf.old) (H.places shelf.old) }
-        requires cell { HoldsAt self.now.shapes self.now.set (H.pages_in shelf.old self.now.set) at (λ cell. length children.now ≡ length cell.children) }
-        ensures changed { OnOk result (Relaid self.now.shapes (H.pages_in shelf.old self.now.set) (H.pages_in shelf.new self.now.set) (Rewrites at (λ cell. record cell { twin = twin; children = children.now }))) }
-        ensures unchanged { OnErr result (SameSets (H.pages_in shelf.old) (H.pages_in shelf.new)) }
-        ensures others { SameOthers self.now.set (H.pages_in shelf.old) (H.pages_in shelf.new) }
+        requires live { IsTrue (H.seen shelf.old).live }
+        requires stands { StandsFor self.now (H.seen shelf.old) }
+        requires cell { HoldsAt self.now (H.seen shelf.old) at (λ cell. length children.now ≡ length cell.children) }
+        ensures changed { OnOk result (Relays self.now (H.seen shelf.old) (H.seen shelf.new) (Rewrites self.now.set at (λ cell. record cell { twin = twin; children = children.now }))) }
+        ensures unchanged { OnErr result (SameShelf (H.seen shelf.old) (H.seen shelf.new)) }
         ensures room { result ≡ Err PageFault.NoRoom → ⊥ }
-        ensures stands { StandsFor self.now.set self.now.shapes self.now.spaces.items (H.pages_in shelf.new) (H.places shelf.new) }
-        ensures places { SameSets (H.places shelf.old) (H.places shelf.new) }
-        ensures free { H.free shelf.new ≡ H.free shelf.old }
-        ensures steady { H.steady shelf.old shelf.new }
-        ensures cause { HasCauseFor (H.disk_faults shelf.old) (H.disk_faults shelf.new) result PageFault.Failed }
-        ensures live { (result ≡ Err PageFault.Failed → ⊥) → IsTrue (H.live shelf.new) }
+        ensures stands { StandsFor self.now (H.seen shelf.new) }
+        ensures leaves { OnlyChanges self.now.set (H.steady shelf.old shelf.new) (IsErrOf result PageFault.Failed) (H.seen shelf.old) (H.seen shelf.new) }
     {
         let Ok(children) = List::from_slice(self.alloc, children.as_slice()) else {
             return Err(PageFault::Memory);
@@ -46,19 +39,14 @@ impl CellStore {
         at: u32,
         content: &Bytes,
     ) -> Result<(), PageFault>
-        requires live { IsTrue (H.live shelf.old) }
-        requires stands { StandsFor self.now.set self.now.shapes self.now.spaces.items (H.pages_in shelf.old) (H.places shelf.old) }
-        requires cell { HoldsAt self.now.shapes self.now.set (H.pages_in shelf.old self.now.set) at (λ cell. length content.now ≡ length cell.content) }
-        ensures changed { OnOk result (Relaid self.now.shapes (H.pages_in shelf.old self.now.set) (H.pages_in shelf.new self.now.set) (Rewrites at (λ cell. record cell { content = content.now }))) }
-        ensures unchanged { OnErr result (SameSets (H.pages_in shelf.old) (H.pages_in shelf.new)) }
-        ensures others { SameOthers self.now.set (H.pages_in shelf.old) (H.pages_in shelf.new) }
+        requires live { IsTrue (H.seen shelf.old).live }
+        requires stands { StandsFor self.now (H.seen shelf.old) }
+        requires cell { HoldsAt self.now (H.seen shelf.old) at (λ cell. length content.now ≡ length cell.content) }
+        ensures changed { OnOk result (Relays self.now (H.seen shelf.old) (H.seen shelf.new) (Rewrites self.now.set at (λ cell. record cell { content = content.now }))) }
+        ensures unchanged { OnErr result (SameShelf (H.seen shelf.old) (H.seen shelf.new)) }
         ensures room { result ≡ Err PageFault.NoRoom → ⊥ }
-        ensures stands { StandsFor self.now.set self.now.shapes self.now.spaces.items (H.pages_in shelf.new) (H.places shelf.new) }
-        ensures places { SameSets (H.places shelf.old) (H.places shelf.new) }
-        ensures free { H.free shelf.new ≡ H.free shelf.old }
-        ensures steady { H.steady shelf.old shelf.new }
-        ensures cause { HasCauseFor (H.disk_faults shelf.old) (H.disk_faults shelf.new) result PageFault.Failed }
-        ensures live { (result ≡ Err PageFault.Failed → ⊥) → IsTrue (H.live shelf.new) }
+        ensures stands { StandsFor self.now (H.seen shelf.new) }
+        ensures leaves { OnlyChanges self.now.set (H.steady shelf.old shelf.new) (IsErrOf result PageFault.Failed) (H.seen shelf.old) (H.seen shelf.new) }
     {
         let Ok(content) = content.copy() else {
             return Err(PageFault::Memory);
@@ -68,38 +56,28 @@ impl CellStore {
 
     /// Sets the name of the cell at an address.
     pub fn set_name<H: Shelf>(&self, shelf: &mut H, at: u32, name: Ilk) -> Result<(), PageFault>
-        requires live { IsTrue (H.live shelf.old) }
-        requires stands { StandsFor self.now.set self.now.shapes self.now.spaces.items (H.pages_in shelf.old) (H.places shelf.old) }
-        requires cell { HoldsAt self.now.shapes self.now.set (H.pages_in shelf.old self.now.set) at (λ _. ⊤) }
-        ensures changed { OnOk result (Relaid self.now.shapes (H.pages_in shelf.old self.now.set) (H.pages_in shelf.new self.now.set) (Rewrites at (λ cell. record cell { name = name }))) }
-        ensures unchanged { OnErr result (SameSets (H.pages_in shelf.old) (H.pages_in shelf.new)) }
-        ensures others { SameOthers self.now.set (H.pages_in shelf.old) (H.pages_in shelf.new) }
+        requires live { IsTrue (H.seen shelf.old).live }
+        requires stands { StandsFor self.now (H.seen shelf.old) }
+        requires cell { HoldsAt self.now (H.seen shelf.old) at (λ _. ⊤) }
+        ensures changed { OnOk result (Relays self.now (H.seen shelf.old) (H.seen shelf.new) (Rewrites self.now.set at (λ cell. record cell { name = name }))) }
+        ensures unchanged { OnErr result (SameShelf (H.seen shelf.old) (H.seen shelf.new)) }
         ensures room { result ≡ Err PageFault.NoRoom → ⊥ }
-        ensures stands { StandsFor self.now.set self.now.shapes self.now.spaces.items (H.pages_in shelf.new) (H.places shelf.new) }
-        ensures places { SameSets (H.places shelf.old) (H.places shelf.new) }
-        ensures free { H.free shelf.new ≡ H.free shelf.old }
-        ensures steady { H.steady shelf.old shelf.new }
-        ensures cause { HasCauseFor (H.disk_faults shelf.old) (H.disk_faults shelf.new) result PageFault.Failed }
-        ensures live { (result ≡ Err PageFault.Failed → ⊥) → IsTrue (H.live shelf.new) }
+        ensures stands { StandsFor self.now (H.seen shelf.new) }
+        ensures leaves { OnlyChanges self.now.set (H.steady shelf.old shelf.new) (IsErrOf result PageFault.Failed) (H.seen shelf.old) (H.seen shelf.new) }
     {
         self.rewrite(shelf, at, Change::Name(name))
     }
 
     /// Marks the cell at an address as copied into the other data set.
     pub fn mark_copied<H: Shelf>(&self, shelf: &mut H, at: u32) -> Result<(), PageFault>
-        requires live { IsTrue (H.live shelf.old) }
-        requires stands { StandsFor self.now.set self.now.shapes self.now.spaces.items (H.pages_in shelf.old) (H.places shelf.old) }
-        requires cell { HoldsAt self.now.shapes self.now.set (H.pages_in shelf.old self.now.set) at (λ _. ⊤) }
-        ensures changed { OnOk result (Relaid self.now.shapes (H.pages_in shelf.old self.now.set) (H.pages_in shelf.new self.now.set) (Rewrites at (λ cell. record cell { copied = true }))) }
-        ensures unchanged { OnErr result (SameSets (H.pages_in shelf.old) (H.pages_in shelf.new)) }
-        ensures others { SameOthers self.now.set (H.pages_in shelf.old) (H.pages_in shelf.new) }
+        requires live { IsTrue (H.seen shelf.old).live }
+        requires stands { StandsFor self.now (H.seen shelf.old) }
+        requires cell { HoldsAt self.now (H.seen shelf.old) at (λ _. ⊤) }
+        ensures changed { OnOk result (Relays self.now (H.seen shelf.old) (H.seen shelf.new) (Rewrites self.now.set at (λ cell. record cell { copied = true }))) }
+        ensures unchanged { OnErr result (SameShelf (H.seen shelf.old) (H.seen shelf.new)) }
         ensures room { result ≡ Err PageFault.NoRoom → ⊥ }
-        ensures stands { StandsFor self.now.set self.now.shapes self.now.spaces.items (H.pages_in shelf.new) (H.places shelf.new) }
-        ensures places { SameSets (H.places shelf.old) (H.places shelf.new) }
-        ensures free { H.free shelf.new ≡ H.free shelf.old }
-        ensures steady { H.steady shelf.old shelf.new }
-        ensures cause { HasCauseFor (H.disk_faults shelf.old) (H.disk_faults shelf.new) result PageFault.Failed }
-        ensures live { (result ≡ Err PageFault.Failed → ⊥) → IsTrue (H.live shelf.new) }
+        ensures stands { StandsFor self.now (H.seen shelf.new) }
+        ensures leaves { OnlyChanges self.now.set (H.steady shelf.old shelf.new) (IsErrOf result PageFault.Failed) (H.seen shelf.old) (H.seen shelf.new) }
     {
         self.rewrite(shelf, at, Change::Copied)
     }

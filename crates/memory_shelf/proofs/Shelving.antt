@@ -4,10 +4,12 @@ use Rattle.std.specs.List.{range_with_len}
 use Rattle.std.proofs.lemmas.List.{drop_all, append-nil}
 use Rattle.std.proofs.Math.Seq.{drop-cons}
 use Rattle.std.proofs.lemmas.Option.{none-some, slice_get-get_or}
-use Rattle.memory_shelf.specs.ShelfLaw.{some_is}
 use Rattle.std.proofs.lemmas.Bool.{and_parts, eqb-true, eq-eqb, and_from}
 use Rattle.hal_base.specs.declared.pages.SetId.{SetId}
 use Rattle.memory_shelf.specs.Shelved.{is_set, places_of, pages_of}
+
+some_is : {X : Type 0} (x y : X) → Some x ≡ Some y → x ≡ y
+some_is {X} x y is = cc
 
 -- the nth page stands at the nth place
 pub record Stands (set : SetId) (at n k : ℕ) (owners : List SetId) (pages : List (List ℕ)) : Type 0 where

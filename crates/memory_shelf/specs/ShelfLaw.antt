@@ -9,9 +9,6 @@ use Rattle.hal_base.specs.Pages.{rises_from}
 use Rattle.hal_base.specs.declared.pages.SetId.{SetId}
 use Rattle.memory_shelf.specs.Shelved.{places_of, pages_of, is_set}
 
-pub some_is : {X : Type 0} (x y : X) → Some x ≡ Some y → x ≡ y
-some_is {X} x y is = ap (λ (o : Option X). unwrap_or o x) is
-
 -- as many pages as places
 many_if : (b : Bool) (at : ℕ) (p : List ℕ) (xs : List ℕ) (ys : List (List ℕ)) → length ys ≡ length xs → length (cond b (p ∷ ys) ys) ≡ length (cond b (at ∷ xs) xs)
 many_if true at p xs ys is = ap suc is
@@ -47,14 +44,9 @@ pages_whole set [] pages whole = All-nil (λ (page : List ℕ). length page ≡ 
 pages_whole set (o ∷ os) [] whole = All-nil (λ (page : List ℕ). length page ≡ 4096)
 pages_whole set (o ∷ os) (p ∷ ps) whole = whole_if (is_set o set) p (pages_of set os ps) (whole 0 p (omega arith)) (pages_whole set os ps (λ k d in_it. whole (suc k) d (omega (arith, in_it))))
 
-pub pages_fit : (set : SetId) (owners : List SetId) (held pages : List (List ℕ)) → length held ≡ length owners → All (λ page. length page ≡ 4096) held → Some (pages_of set owners held) ≡ Some pages → (length pages ≡ length (places_of set 0 owners)) × All (λ page. length page ≡ 4096) pages
-pages_fit set owners held pages many whole is =
-    let same = some_is (pages_of set owners held) pages is in
-    subst (λ (l : List (List ℕ)). (length l ≡ length (places_of set 0 owners)) × All (λ page. length page ≡ 4096) l) same (as_many set 0 owners held many, pages_whole set owners held whole)
+pub pages_fit : (set : SetId) (owners : List SetId) (held : List (List ℕ)) → length held ≡ length owners → All (λ page. length page ≡ 4096) held
+    → (length (pages_of set owners held) ≡ length (places_of set 0 owners)) × All (λ page. length page ≡ 4096) (pages_of set owners held)
+pages_fit set owners held many whole = (as_many set 0 owners held many, pages_whole set owners held whole)
 
 pub few_in_all : (set : SetId) (owners : List SetId) (count : ℕ) → length owners ≤ count → count ≤ 65536 → length (places_of set 0 owners) + length (range_with_len (length owners) (count - length owners)) ≤ 65536
 few_in_all set owners count within near = omega (arith, few_places set 0 owners, length-range_with_len (length owners) (count - length owners), within, near)
-
--- pages that aren't told are none
-pub no_pages : (count : ℕ) (pages : List (List ℕ)) → None ≡ Some pages → (length pages ≡ count) × All (λ page. length page ≡ 4096) pages
-no_pages count pages is = absurd (none-some pages is)

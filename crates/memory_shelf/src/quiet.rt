@@ -1,7 +1,7 @@
 ghost use Rattle.std.specs.Prelude.{◌≡◌, ◌-◌, ◌≤◌, length, true, None, Some, ⊤};
 ghost use Rattle.std.specs.List.{range_with_len};
 ghost use Rattle.memory_shelf.specs.Shelved.{places_of};
-ghost use Rattle.memory_shelf.specs.ShelfLaw.{no_pages, few_in_all, free_rise};
+ghost use Rattle.memory_shelf.specs.ShelfLaw.{few_in_all, free_rise};
 ghost use Rattle.std.proofs.Common.{arith, refl};
 
 use crate::MemShelf;
@@ -35,21 +35,23 @@ impl Live for QuietShelf {
 }
 
 impl Shelf for QuietShelf {
-    ghost pages_in = { λ _ _. None };
-
-    ghost places = { λ s set. places_of set 0 s.shelf.owners.items };
-
-    ghost free = { λ s. range_with_len (length s.shelf.owners.items) (s.shelf.count - length s.shelf.owners.items) };
-
-    ghost takes = { λ _ _ _. true };
-
-    ghost disk_faults = { λ _. 0 };
-
-    ghost fetches = { λ s. s.shelf.fetches };
+    ghost seen = { λ s. record {
+      pages = λ _. None;
+      places = λ set. places_of set 0 s.shelf.owners.items;
+      free = range_with_len (length s.shelf.owners.items) (s.shelf.count - length s.shelf.owners.items);
+      takes = λ _ _. true;
+      disk_faults = 0;
+      fetches = s.shelf.fetches;
+      live = true;
+    } };
 
     ghost steady = { λ _ _. ⊤ };
 
-    ghost pages_are = { λ s set pages is. no_pages (length (places_of set 0 s.shelf.owners.items)) pages is };
+    ghost alive = { λ s. refl };
+
+    ghost pages_are = { λ s set. tt };
+
+    ghost told_alike = { λ s set other none. refl };
 
     ghost few = { λ s set. few_in_all set s.shelf.owners.items s.shelf.count s.shelf.within s.shelf.near };
 
@@ -58,8 +60,6 @@ impl Shelf for QuietShelf {
     ghost steady_none = { λ s. tt };
 
     ghost steady_then = { λ a b c first second. tt };
-
-    ghost steady_takes = { λ a b set kind is. refl };
 
     fn pages(&self, set: SetId) -> u32 {
         self.shelf.pages(set)

@@ -4,7 +4,8 @@ ghost use Rattle.std.specs.List.{range_with_len};
 ghost use Rattle.hal_base.specs.Pages.{empty_page};
 ghost use Rattle.memory_shelf.specs.Shelved.{is_set, places_of, pages_of};
 ghost use Rattle.memory_shelf.specs.ShelfLaw.{pages_fit, few_in_all, free_rise};
-ghost use Rattle.std.proofs.Common.{arith, refl};
+ghost use Rattle.std.proofs.Common.{arith, refl, sym};
+ghost use Rattle.std.proofs.lemmas.Option.{none-some};
 
 use hal_base::{BLOCK, Failed, Live, Memory, PageFault, SetId, Shelf, StageFault, empty_page};
 use std::alloc::Global;
@@ -106,21 +107,23 @@ impl Live for MemShelf {
 }
 
 impl Shelf for MemShelf {
-    ghost pages_in = { λ s set. Some (pages_of set s.owners.items s.pages.items) };
-
-    ghost places = { λ s set. places_of set 0 s.owners.items };
-
-    ghost free = { λ s. range_with_len (length s.owners.items) (s.count - length s.owners.items) };
-
-    ghost takes = { λ _ _ _. true };
-
-    ghost disk_faults = { λ _. 0 };
-
-    ghost fetches = { λ s. s.fetches };
+    ghost seen = { λ s. record {
+      pages = λ set. Some (pages_of set s.owners.items s.pages.items);
+      places = λ set. places_of set 0 s.owners.items;
+      free = range_with_len (length s.owners.items) (s.count - length s.owners.items);
+      takes = λ _ _. true;
+      disk_faults = 0;
+      fetches = s.fetches;
+      live = true;
+    } };
 
     ghost steady = { λ _ _. ⊤ };
 
-    ghost pages_are = { λ s set pages is. pages_fit set s.owners.items s.pages.items pages s.as_many s.whole is };
+    ghost alive = { λ s. refl };
+
+    ghost pages_are = { λ s set. pages_fit set s.owners.items s.pages.items s.as_many s.whole };
+
+    ghost told_alike = { λ s set other none. absurd (none-some (pages_of set s.owners.items s.pages.items) (sym none)) };
 
     ghost few = { λ s set. few_in_all set s.owners.items s.count s.within s.near };
 
@@ -129,8 +132,6 @@ impl Shelf for MemShelf {
     ghost steady_none = { λ s. tt };
 
     ghost steady_then = { λ a b c first second. tt };
-
-    ghost steady_takes = { λ a b set kind is. refl };
 
     fn pages(&self, set: SetId) -> u32 {
         count_of(&self.owners, set) as u32

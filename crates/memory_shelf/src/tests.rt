@@ -19,9 +19,9 @@ const SECOND: SetId = SetId {
 
 /// Stages a page as it is.
 fn stage_again<H: Shelf>(shelf: &mut H, set: SetId, n: u16) -> bool
-    requires live { IsTrue (H.live shelf.old) }
-    requires below { n < length (H.places shelf.old set) }
-    ensures { SameSets (H.places shelf.old) (H.places shelf.new) }
+    requires live { IsTrue (H.seen shelf.old).live }
+    requires below { n < length ((H.seen shelf.old).places set) }
+    ensures { SameSets (H.seen shelf.old).places (H.seen shelf.new).places }
 {
     let mut page = [0; BLOCK];
     shelf.fetch_page(set, n, &mut page).is_ok() && shelf.stage_page(set, n, &page).is_ok()

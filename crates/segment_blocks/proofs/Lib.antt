@@ -4,5 +4,7 @@ pub mod Cells
 pub mod Tiles
 pub mod Tilings
 pub mod Progress
+pub mod TilesOf
+pub mod Among
 pub mod OneTiling
 pub mod Writing

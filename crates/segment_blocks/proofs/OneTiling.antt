@@ -8,7 +8,8 @@ use Rattle.segment_blocks.specs.declared.tile.Tile.{Tile}
 use Rattle.segment_blocks.specs.declared.tile.BlockFault.{BlockFault}
 use Rattle.segment_blocks.specs.declared.tile.BlockFault.TheVariants.{BadTile, Memory}
 use Rattle.segment_blocks.specs.Tiling.{IsTiling, StopsAt, spelling, spelled}
-use Rattle.segment_blocks.proofs.Tilings.{one_tiling, Continues, tiling_continues}
+use Rattle.segment_blocks.proofs.Tilings.{Continues, tiling_continues}
+use Rattle.segment_blocks.proofs.TilesOf.{tiling_is}
 use Rattle.segment_blocks.proofs.Progress.{leads_on}
 
 -- tiles that lead to an offset where none begins are all that begin the body
@@ -42,8 +43,8 @@ one_stop shapes block a b s t =
       ]
     ]
 
-pub same_tiling : (shapes : List Shape) (block : List ℕ) (one other : List Tile) → IsTiling shapes block one → IsTiling shapes block other → one ≡ other
-same_tiling shapes block one other s t = one_tiling shapes 16 false one other s.tiled t.tiled (sym s.whole ∙ t.whole)
+same_tiling : (shapes : List Shape) (block : List ℕ) (one other : List Tile) → IsTiling shapes block one → IsTiling shapes block other → one ≡ other
+same_tiling shapes block one other s t = tiling_is shapes block one s ∙ sym (tiling_is shapes block other t)
 
 -- a tiled body gives its tiles
 pub is_given : (shapes : List Shape) (block : List ℕ) (r : Result (List Tile) BlockFault) → IfOk r (IsTiling shapes block) → ((offset : ℕ) → r ≡ Err (BadTile offset) → StopsAt shapes block offset)

@@ -4,7 +4,7 @@ use Rattle.std.proofs.lemmas.List.{length-append, append-nil}
 use Rattle.hal_base.specs.declared.place.Shape.{Shape}
 use Rattle.segment_blocks.specs.declared.tile.Tile.{Tile}
 use Rattle.segment_blocks.specs.Tiling.{IsTileAt, AreTilesFrom, is_hole, spelling, spelled}
-use Rattle.segment_blocks.proofs.Tiles.{IsWhole, tile_whole, same_tile, same_rest}
+use Rattle.segment_blocks.proofs.Tiles.{same_tile, same_rest}
 
 -- whether a hole ends where these tiles do
 abbrev pub ends_in_hole : Bool → List Tile → Bool
@@ -45,25 +45,6 @@ tiles_last shapes start after_hole [] tile are =
 tiles_last shapes start after_hole (first ∷ tiles) tile are =
     subst (λ (s : ℕ). IsTileAt shapes s (ends_in_hole (is_hole first) tiles) tile) (sym (past start first tiles))
     (tiles_last shapes (start + length (spelling first)) (is_hole first) tiles tile are.1)
-
--- tiles spell something
-some_bytes : (shapes : List Shape) (start : ℕ) (after_hole : Bool) (tile : Tile) (more : List ℕ) → IsTileAt shapes start after_hole tile → spelling tile ++ more ≡ [] → ⊥
-some_bytes shapes start after_hole tile more is e =
-    let whole : IsWhole (length (spelling tile)) = tile_whole shapes start after_hole tile is in
-    let none : length (spelling tile ++ more) ≡ 0 = ap length e in
-    omega (arith, whole.least, none, length-append (spelling tile) more)
-
-pub one_tiling : (shapes : List Shape) (start : ℕ) (after_hole : Bool) (one other : List Tile) → AreTilesFrom shapes start after_hole one → AreTilesFrom shapes start after_hole other → spelled one ≡ spelled other → one ≡ other
-one_tiling shapes start after_hole [] [] are others e = refl
-one_tiling shapes start after_hole [] (t ∷ ts) are others e = absurd (some_bytes shapes start after_hole t (spelled ts) others.0 (sym e))
-one_tiling shapes start after_hole (s ∷ ss) [] are others e = absurd (some_bytes shapes start after_hole s (spelled ss) are.0 e)
-one_tiling shapes start after_hole (s ∷ ss) (t ∷ ts) are others e =
-    let first : s ≡ t = same_tile shapes start after_hole s t (spelled ss) (spelled ts) are.0 others.0 e in
-    let rest : spelled ss ≡ spelled ts = same_rest s t (spelled ss) (spelled ts) first e in
-    let behind : AreTilesFrom shapes (start + length (spelling s)) (is_hole s) ts =
-    subst (λ (u : Tile). AreTilesFrom shapes (start + length (spelling u)) (is_hole u) ts) (sym first) others.1 in
-    let more : ss ≡ ts = one_tiling shapes (start + length (spelling s)) (is_hole s) ss ts are.1 behind rest in
-    ap (λ (u : Tile). u ∷ ss) first ∙ ap (λ (us : List Tile). t ∷ us) more
 
 -- of two lists of tiles that begin the same bytes, the one that leaves more is followed by a tile of the other
 pub record Continues (shapes : List Shape) (start : ℕ) (after_hole : Bool) (tiles : List Tile) (rest : List ℕ) : Type 0 where

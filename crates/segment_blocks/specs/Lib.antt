@@ -1,2 +1,4 @@
 pub mod Tiling
 pub mod Reading
+pub mod TilesOf
+pub mod OneProof

@@ -1,16 +1,25 @@
-ghost use Rattle.std.specs.Prelude.{◌≡◌, ℕ, ◌+◌, ◌≤◌, List, ◌++◌, length};
+ghost use Rattle.std.specs.Prelude.{◌≡◌, ℕ, ◌+◌, ◌≤◌, List, ◌++◌, length, slice_get, Some};
 ghost use Rattle.hal_base.specs.declared.place.Shape.{Shape};
+ghost use Rattle.segment_blocks.specs.declared.tile.Cell.{Cell};
 ghost use Rattle.segment_blocks.specs.declared.tile.Tile.{Tile};
 ghost use Rattle.segment_blocks.specs.Tiling.{AreTiles, IsTiling, StandAround, StopsAt, spelled};
+ghost use Rattle.segment_blocks.specs.TilesOf.{tiles_of, cell_among};
 
-/// A block has one tiling, or one offset at which its tiles stop, and not both.
+/// A block has one tiling, which is a function of its bytes, or one offset at which its tiles stop, and not both.
 pub fn one_tiling()
-    ensures tiling { (shapes : List Shape) (block : List ℕ) (one other : List Tile) →
-        IsTiling shapes block one → IsTiling shapes block other → one ≡ other }
+    ensures tiling { (shapes : List Shape) (block : List ℕ) (tiles : List Tile) → IsTiling shapes block tiles → tiles ≡ tiles_of shapes block }
     ensures stop { (shapes : List Shape) (block : List ℕ) (one other : ℕ) →
         StopsAt shapes block one → StopsAt shapes block other → one ≡ other }
     ensures either { (shapes : List Shape) (block : List ℕ) (offset : ℕ) (tiles : List Tile) →
         StopsAt shapes block offset → IsTiling shapes block tiles → ⊥ }
+{}
+
+/// A cell stands at an offset of a tiled block exactly where the function gives it.
+pub fn cells_by_offset()
+    ensures given { (shapes : List Shape) (block : List ℕ) (tiles : List Tile) (place offset : ℕ) (cell : Cell) →
+        IsTiling shapes block tiles → slice_get tiles place ≡ Some (Tile.Seg offset cell) → cell_among offset tiles ≡ Some cell }
+    ensures found { (offset : ℕ) (tiles : List Tile) (cell : Cell) → cell_among offset tiles ≡ Some cell →
+        (place : ℕ) × (slice_get tiles place ≡ Some (Tile.Seg offset cell)) }
 {}
 
 /// In a tiled block the other tiles stand around each run of tiles, and where tiles stand around a part that they

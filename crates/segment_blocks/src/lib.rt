@@ -20,7 +20,7 @@ mod size;
 mod tile;
 mod write;
 
-pub use laws::{one_tiling, others_stand_around};
+pub use laws::{cells_by_offset, one_tiling, others_stand_around};
 pub use parse::parse_block;
 pub use size::cell_size;
 pub use tile::{BlockFault, Cell, Tile};

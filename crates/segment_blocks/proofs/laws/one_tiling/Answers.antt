@@ -1,8 +1,9 @@
-use Rattle.segment_blocks.proofs.OneTiling.{same_tiling, one_stop, not_both}
+use Rattle.segment_blocks.proofs.TilesOf.{tiling_is}
+use Rattle.segment_blocks.proofs.OneTiling.{one_stop, not_both}
 use Rattle.segment_blocks.proofs.laws.one_tiling.Goals as goal
 
 pub returns-clause-tiling : goal.returns-clause-tiling
-returns-clause-tiling c = same_tiling
+returns-clause-tiling c = tiling_is
 
 pub returns-clause-stop : goal.returns-clause-stop
 returns-clause-stop c = one_stop

@@ -1,79 +1,116 @@
-use Rattle.std.proofs.Common.{◌≡◌, ℕ, ◌<◌, List, sym, ap, subst, ◌∙◌, arith, length}
+use Rattle.std.proofs.Common.{◌≡◌, ℕ, ◌<◌, List, length, All, sym, ap, subst, ◌∙◌, refl, arith}
 use Rattle.std.specs.Prelude.{slice_get, Some}
-use Rattle.std.specs.Result.{IfOk}
-use Rattle.std.proofs.lemmas.List.{length-map}
-use Rattle.std.proofs.lemmas.Result.{IfOk-weaker, on_err_weaker, err_from_is_err_and}
-use Rattle.hal_base.specs.declared.pages.SetId.{SetId}
-use Rattle.hal_base.specs.declared.place.Shape.{Shape}
-use Rattle.hal_base.specs.declared.outcome.PageFault.TheVariants.{NoRoom}
+use Rattle.std.proofs.lemmas.Result.{err_from_is_err_and}
+use Rattle.hal_base.specs.declared.outcome.PageFault.TheVariants.{NoRoom, Failed}
+use Rattle.hal_base.proofs.ShelfLemmas.{changed_grown, keeps_then, keeps_as}
 use Rattle.segment_blocks.specs.Tiling.{cell_length}
 use Rattle.free_space.specs.declared.space.Space.{Space}
-use Rattle.free_space.specs.Space.{space_of}
-use Rattle.free_space.specs.Layout.{Relaid}
-use Rattle.free_space.specs.Placing.{grown, opened_pages, AppendsIn, Appends, NoPlace, IsLastOpen, HasRoom}
-use Rattle.free_space.specs.Store.{Grows}
-use Rattle.free_space.proofs.Pages.{handed_on}
-use Rattle.free_space.proofs.PlaceSteps.{knows_this, grows_none, grows_same, relaid_none, relaid_kept}
-use Rattle.free_space.proofs.AppendSteps.{no_place, appended_here, appended_behind, opened_few}
+use Rattle.free_space.specs.Placing.{opened_pages, Appends, IsLastOpen, HasRoom}
+use Rattle.free_space.specs.Store.{Relays}
+use Rattle.free_space.proofs.Told.{handed_on, handed_to, if_some, added_is, stays_then}
+use Rattle.free_space.proofs.AppendSteps.{NoRoomIn, no_place, appended_here, appended_behind}
+use Rattle.free_space.proofs.GrownSteps.{match_of, match_err, on_ok_any, none_added, grows_only, grew_none, grew_same, grew_as, grown_changed}
 use Rattle.free_space.proofs.store.CellStore.append.Goals as goal
+
+pub returns-in-Some-clause-appended : goal.returns-in-Some-clause-appended
+returns-in-Some-clause-appended g c =
+    let old = g.H.Shelf.seen c.args.shelf.now in
+    let new = g.H.Shelf.seen c.append_in.new.shelf in
+    let found = subst (λ (l : List Space). IsLastOpen c.args.fbff l c.in-Some.page × ((space : Space) → slice_get l c.in-Some.page ≡ Some space → HasRoom c.args.fspf c.cell_size-len.result space)) c.deref.ensures.value c.in-Some.ensures.found in
+    match_of c.append_in.result c.append_in.ensures.appends_in c.append_in.ensures.unchanged
+    (λ at put. appended_here c.args.self.now old new c.args.cell.now at c.in-Some.page c.cell_size-len.result c.args.fbff c.args.fspf _ (c.cell_size-len.ensures ∙ ap cell_length c.shape_for.ensures)
+    (sym (none_added c.args.self.now.set old new c.append_in.ensures.leaves.changed)) c.requires.stands found.0 found.1 put)
+    (λ same e. (grew_none c.args.self.now old new same).tiles)
+
+pub returns-in-Some-clause-no_room : goal.returns-in-Some-clause-no_room
+returns-in-Some-clause-no_room g c = λ is. absurd (c.append_in.ensures.room is)
+
+pub returns-in-Some-clause-few : goal.returns-in-Some-clause-few
+returns-in-Some-clause-few g c = omega (arith, none_added c.args.self.now.set (g.H.Shelf.seen c.args.shelf.now) (g.H.Shelf.seen c.append_in.new.shelf) c.append_in.ensures.leaves.changed)
+
+pub returns-in-Some-clause-opened : goal.returns-in-Some-clause-opened
+returns-in-Some-clause-opened g c = on_ok_any c.append_in.result
+    (λ some. absurd (omega (arith, some, none_added c.args.self.now.set (g.H.Shelf.seen c.args.shelf.now) (g.H.Shelf.seen c.append_in.new.shelf) c.append_in.ensures.leaves.changed)))
+
+pub returns-in-Some-clause-leaves : goal.returns-in-Some-clause-leaves
+returns-in-Some-clause-leaves g c = grows_only 0 c.args.self.now.set (g.H.Shelf.seen c.args.shelf.now) (g.H.Shelf.seen c.append_in.new.shelf) c.append_in.ensures.leaves.keeps (changed_grown c.append_in.ensures.leaves.changed)
+
+pub returns-in_err-page-in-None-clause-appended : goal.returns-in_err-page-in-None-clause-appended
+returns-in_err-page-in-None-clause-appended g c =
+    let p = err_from_is_err_and c.from_residual.result c.from_residual.ensures.1 in
+    match_err _ _ c.from_residual.result p.0 p.1 (λ e. c.in_err-page-in-None.ensures.grown.tiles)
 
 pub returns-in_err-page-in-None-clause-no_room : goal.returns-in_err-page-in-None-clause-no_room
 returns-in_err-page-in-None-clause-no_room g c = λ is.
     let p = err_from_is_err_and c.from_residual.result c.from_residual.ensures.1 in
     let failed = handed_on c.open_page.result c.from_residual.result p.0 c.in_err-page-in-None.field-0.0 NoRoom p.1 p.2 c.in_err-page-in-None.was is in
-    let size = c.cell_size-len.ensures ∙ ap cell_length c.shape_for.ensures in (
-      subst (λ (m : ℕ). length (g.H.Shelf.free c.args.shelf.now) < opened_pages c.args.fbff m) c.requires.stands.many (c.open_page.ensures.no_room failed),
-      (λ layout has. subst (λ (n : ℕ). NoPlace c.args.fbff c.args.fspf n layout) size (no_place c.args.self.now.shapes (g.H.Shelf.pages_in c.args.shelf.now c.args.self.now.set) c.args.self.now.spaces.items layout c.args.fbff c.args.fspf c.cell_size-len.result
-          (λ pages told. (g.met.H.Shelf.pages_are c.args.shelf.now c.args.self.now.set pages told).1) has (knows_this c.args.self.now.set c.args.self.now.shapes c.args.self.now.spaces.items (g.H.Shelf.pages_in c.args.shelf.now) (g.H.Shelf.places c.args.shelf.now) layout (c.one_tiling.ensures.tiling c.args.self.now.shapes) c.requires.stands has)
-          (subst (λ (l : List Space). (page : ℕ) (space : Space) → IsLastOpen c.args.fbff l page → slice_get l page ≡ Some space → HasRoom c.args.fspf c.cell_size-len.result space → ⊥) c.deref.ensures.value c.in-None.ensures.none))),
+    let none = subst (λ (l : List Space). NoRoomIn l c.args.fbff c.args.fspf c.cell_size-len.result) c.deref.ensures.value c.in-None.ensures.none in (
+      subst (λ (m : ℕ). length (g.H.Shelf.seen c.args.shelf.now).free < opened_pages c.args.fbff m) c.requires.stands.many (c.open_page.ensures.no_room failed),
+      (λ pages told. no_place c.args.self.now.shapes c.args.self.now.spaces.items pages c.args.fbff c.args.fspf c.cell_size-len.result _ (c.cell_size-len.ensures ∙ ap cell_length c.shape_for.ensures)
+          (if_some (λ all. (length all ≡ length ((g.H.Shelf.seen c.args.shelf.now).places c.args.self.now.set)) × All (λ page. length page ≡ 4096) all) ((g.H.Shelf.seen c.args.shelf.now).pages c.args.self.now.set) pages
+          (g.met.H.Shelf.pages_are c.args.shelf.now c.args.self.now.set) told).1 (c.requires.stands.told pages told) none),
     )
 
-pub returns-in-Some-clause-appended : goal.returns-in-Some-clause-appended
-returns-in-Some-clause-appended g c =
-    let size = c.cell_size-len.ensures ∙ ap cell_length c.shape_for.ensures in
-    let found = subst (λ (l : List Space). IsLastOpen c.args.fbff l c.in-Some.page × ((space : Space) → slice_get l c.in-Some.page ≡ Some space → HasRoom c.args.fspf c.cell_size-len.result space)) c.deref.ensures.value c.in-Some.ensures.found in
-    IfOk-weaker c.append_in.result
-    (λ at. Relaid c.args.self.now.shapes (g.H.Shelf.pages_in c.args.shelf.now c.args.self.now.set) (g.H.Shelf.pages_in c.append_in.new.shelf c.args.self.now.set) (AppendsIn c.args.self.now.set c.args.cell.now at c.in-Some.page))
-    (λ at. (count : ℕ) × Grows c.args.self.now.set count (g.H.Shelf.free c.args.shelf.now) (g.H.Shelf.free c.append_in.new.shelf) (g.H.Shelf.places c.args.shelf.now) (g.H.Shelf.places c.append_in.new.shelf) × Relaid c.args.self.now.shapes (g.H.Shelf.pages_in c.args.shelf.now c.args.self.now.set) (g.H.Shelf.pages_in c.append_in.new.shelf c.args.self.now.set) (Appends c.args.self.now.set c.args.cell.now c.args.fbff c.args.fspf count at))
-    (λ at put. (
-      0,
-      grows_none c.args.self.now.set (g.H.Shelf.free c.args.shelf.now) (g.H.Shelf.free c.append_in.new.shelf) (g.H.Shelf.places c.args.shelf.now) (g.H.Shelf.places c.append_in.new.shelf) c.append_in.ensures.free c.append_in.ensures.places,
-      appended_here c.args.self.now.set c.args.self.now.shapes (g.H.Shelf.pages_in c.args.shelf.now c.args.self.now.set) (g.H.Shelf.pages_in c.append_in.new.shelf c.args.self.now.set) c.args.cell.now at c.in-Some.page c.cell_size-len.result c.args.fbff c.args.fspf c.args.self.now.spaces.items size (λ layout has. knows_this c.args.self.now.set c.args.self.now.shapes c.args.self.now.spaces.items (g.H.Shelf.pages_in c.args.shelf.now) (g.H.Shelf.places c.args.shelf.now) layout (c.one_tiling.ensures.tiling c.args.self.now.shapes) c.requires.stands has) found.0 found.1 put,
-    ))
-    c.append_in.ensures.appends_in
+pub returns-in_err-page-in-None-clause-few : goal.returns-in_err-page-in-None-clause-few
+returns-in_err-page-in-None-clause-few g c = omega (arith, c.open_page.ensures.few, ap (opened_pages c.args.fbff) c.requires.stands.many)
 
-pub returns-in-Some-clause-left : goal.returns-in-Some-clause-left
-returns-in-Some-clause-left g c =
-    on_err_weaker c.append_in.result (λ same. (0, omega arith, grows_none c.args.self.now.set (g.H.Shelf.free c.args.shelf.now) (g.H.Shelf.free c.append_in.new.shelf) (g.H.Shelf.places c.args.shelf.now) (g.H.Shelf.places c.append_in.new.shelf) c.append_in.ensures.free c.append_in.ensures.places, relaid_none c.args.self.now.shapes (g.H.Shelf.pages_in c.args.shelf.now c.args.self.now.set) (g.H.Shelf.pages_in c.append_in.new.shelf c.args.self.now.set) (same c.args.self.now.set))) c.append_in.ensures.unchanged
+pub returns-in_err-page-in-None-clause-leaves : goal.returns-in_err-page-in-None-clause-leaves
+returns-in_err-page-in-None-clause-leaves g c =
+    let p = err_from_is_err_and c.from_residual.result c.from_residual.ensures.1 in
+    record {
+      keeps = keeps_as c.open_page.ensures.keeps (handed_to c.open_page.result c.from_residual.result p.0 c.in_err-page-in-None.field-0.0 Failed p.1 p.2 c.in_err-page-in-None.was)
+          (handed_on c.open_page.result c.from_residual.result p.0 c.in_err-page-in-None.field-0.0 Failed p.1 p.2 c.in_err-page-in-None.was);
+      grown = c.in_err-page-in-None.ensures.grown.blocks;
+    }
 
 pub returns-in_ok-page-in-None-clause-appended : goal.returns-in_ok-page-in-None-clause-appended
 returns-in_ok-page-in-None-clause-appended g c =
-    let size = c.cell_size-len.ensures ∙ ap cell_length c.shape_for.ensures in
     let e = c.in_ok-page-in-None.ensures in
-    IfOk-weaker c.append_in-in-None.result
-    (λ at. Relaid c.args.self.now.shapes (g.H.Shelf.pages_in c.open_page.new.shelf c.args.self.now.set) (g.H.Shelf.pages_in c.append_in-in-None.new.shelf c.args.self.now.set) (AppendsIn c.args.self.now.set c.args.cell.now at c.in_ok-page-in-None.page))
-    (λ at. (count : ℕ) × Grows c.args.self.now.set count (g.H.Shelf.free c.args.shelf.now) (g.H.Shelf.free c.append_in-in-None.new.shelf) (g.H.Shelf.places c.args.shelf.now) (g.H.Shelf.places c.append_in-in-None.new.shelf) × Relaid c.args.self.now.shapes (g.H.Shelf.pages_in c.args.shelf.now c.args.self.now.set) (g.H.Shelf.pages_in c.append_in-in-None.new.shelf c.args.self.now.set) (Appends c.args.self.now.set c.args.cell.now c.args.fbff c.args.fspf count at))
-    (λ at put. (
-      (opened_pages c.args.fbff (length c.args.self.now.spaces.items)),
-      grows_same c.args.self.now.set (opened_pages c.args.fbff (length c.args.self.now.spaces.items)) (g.H.Shelf.free c.args.shelf.now) (g.H.Shelf.free c.open_page.new.shelf) (g.H.Shelf.free c.append_in-in-None.new.shelf) (g.H.Shelf.places c.args.shelf.now) (g.H.Shelf.places c.open_page.new.shelf) (g.H.Shelf.places c.append_in-in-None.new.shelf) e.grows c.append_in-in-None.ensures.free c.append_in-in-None.ensures.places,
-      appended_behind c.args.self.now.set c.args.self.now.shapes (g.H.Shelf.pages_in c.args.shelf.now c.args.self.now.set) (g.H.Shelf.pages_in c.open_page.new.shelf c.args.self.now.set) (g.H.Shelf.pages_in c.append_in-in-None.new.shelf c.args.self.now.set) c.args.cell.now at c.in_ok-page-in-None.page (length c.args.self.now.spaces.items) c.args.fbff c.args.fspf c.requires.step e.number
-          (λ layout has. (
-            sym (ap length (knows_this c.args.self.now.set c.args.self.now.shapes c.args.self.now.spaces.items (g.H.Shelf.pages_in c.args.shelf.now) (g.H.Shelf.places c.args.shelf.now) layout (c.one_tiling.ensures.tiling c.args.self.now.shapes) c.requires.stands has) ∙ length-map layout space_of),
-            subst (λ (n : ℕ). NoPlace c.args.fbff c.args.fspf n layout) size (no_place c.args.self.now.shapes (g.H.Shelf.pages_in c.args.shelf.now c.args.self.now.set) c.args.self.now.spaces.items layout c.args.fbff c.args.fspf c.cell_size-len.result
-                (λ pages told. (g.met.H.Shelf.pages_are c.args.shelf.now c.args.self.now.set pages told).1) has (knows_this c.args.self.now.set c.args.self.now.shapes c.args.self.now.spaces.items (g.H.Shelf.pages_in c.args.shelf.now) (g.H.Shelf.places c.args.shelf.now) layout (c.one_tiling.ensures.tiling c.args.self.now.shapes) c.requires.stands has)
-                (subst (λ (l : List Space). (page : ℕ) (space : Space) → IsLastOpen c.args.fbff l page → slice_get l page ≡ Some space → HasRoom c.args.fspf c.cell_size-len.result space → ⊥) c.deref.ensures.value c.in-None.ensures.none)),
-          )) e.grown put,
-    ))
-    (subst (λ (s : SetId). IfOk c.append_in-in-None.result (λ at. Relaid c.args.self.now.shapes (g.H.Shelf.pages_in c.open_page.new.shelf s) (g.H.Shelf.pages_in c.append_in-in-None.new.shelf s) (AppendsIn s c.args.cell.now at c.in_ok-page-in-None.page))) e.set
-    (subst (λ (l : List Shape). IfOk c.append_in-in-None.result (λ at. Relaid l (g.H.Shelf.pages_in c.open_page.new.shelf c.open_page.new.self.set) (g.H.Shelf.pages_in c.append_in-in-None.new.shelf c.open_page.new.self.set) (AppendsIn c.open_page.new.self.set c.args.cell.now at c.in_ok-page-in-None.page))) e.shapes
-    c.append_in-in-None.ensures.appends_in))
+    let old = g.H.Shelf.seen c.args.shelf.now in
+    let mid = g.H.Shelf.seen c.open_page.new.shelf in
+    let new = g.H.Shelf.seen c.append_in-in-None.new.shelf in
+    let count = opened_pages c.args.fbff (length c.args.self.now.spaces.items) in
+    let none = subst (λ (l : List Space). NoRoomIn l c.args.fbff c.args.fspf c.cell_size-len.result) c.deref.ensures.value c.in-None.ensures.none in
+    let grown = grown_changed count c.args.self.now.set c.open_page.new.self.set old mid new e.stays.set e.grown.blocks c.append_in-in-None.ensures.leaves.changed in
+    let are = added_is count c.args.self.now.set old new grown in
+    match_of c.append_in-in-None.result c.append_in-in-None.ensures.appends_in c.append_in-in-None.ensures.unchanged
+    (λ at put. subst (λ (k : ℕ). Relays c.args.self.now old new (Appends c.args.self.now.set c.args.cell.now c.args.fbff c.args.fspf k at)) are
+    (appended_behind c.args.self.now c.open_page.new.self old mid new c.args.cell.now at c.in_ok-page-in-None.page c.cell_size-len.result c.args.fbff c.args.fspf count (c.cell_size-len.ensures ∙ ap cell_length c.shape_for.ensures)
+    c.requires.step e.stays.set e.stays.shapes c.requires.stands e.stays.stands
+    (λ pages told. (if_some (λ all. (length all ≡ length (old.places c.args.self.now.set)) × All (λ page. length page ≡ 4096) all) (old.pages c.args.self.now.set) pages (g.met.H.Shelf.pages_are c.args.shelf.now c.args.self.now.set) told).1)
+    none refl e.number e.grown.tiles put))
+    (λ same f. (grew_as count c.args.self.now old new (grew_same count c.args.self.now old mid new e.grown same)).tiles)
 
-pub returns-in_ok-page-in-None-clause-left : goal.returns-in_ok-page-in-None-clause-left
-returns-in_ok-page-in-None-clause-left g c =
+pub returns-in_ok-page-in-None-clause-no_room : goal.returns-in_ok-page-in-None-clause-no_room
+returns-in_ok-page-in-None-clause-no_room g c = λ is. absurd (c.append_in-in-None.ensures.room is)
+
+pub returns-in_ok-page-in-None-clause-few : goal.returns-in_ok-page-in-None-clause-few
+returns-in_ok-page-in-None-clause-few g c =
     let e = c.in_ok-page-in-None.ensures in
-    on_err_weaker c.append_in-in-None.result (λ same. (
-      (opened_pages c.args.fbff (length c.args.self.now.spaces.items)),
-      opened_few c.args.fbff (length c.args.self.now.spaces.items),
-      grows_same c.args.self.now.set (opened_pages c.args.fbff (length c.args.self.now.spaces.items)) (g.H.Shelf.free c.args.shelf.now) (g.H.Shelf.free c.open_page.new.shelf) (g.H.Shelf.free c.append_in-in-None.new.shelf) (g.H.Shelf.places c.args.shelf.now) (g.H.Shelf.places c.open_page.new.shelf) (g.H.Shelf.places c.append_in-in-None.new.shelf) e.grows c.append_in-in-None.ensures.free c.append_in-in-None.ensures.places,
-      relaid_kept c.args.self.now.shapes (g.H.Shelf.pages_in c.args.shelf.now c.args.self.now.set) (g.H.Shelf.pages_in c.open_page.new.shelf c.args.self.now.set) (g.H.Shelf.pages_in c.append_in-in-None.new.shelf c.args.self.now.set) (λ old now. now ≡ grown (opened_pages c.args.fbff (length c.args.self.now.spaces.items)) old) e.grown (same c.args.self.now.set),
-    )) c.append_in-in-None.ensures.unchanged
+    let count = opened_pages c.args.fbff (length c.args.self.now.spaces.items) in
+    omega (
+      arith,
+      ap (opened_pages c.args.fbff) c.requires.stands.many,
+      added_is count c.args.self.now.set (g.H.Shelf.seen c.args.shelf.now) (g.H.Shelf.seen c.append_in-in-None.new.shelf)
+          (grown_changed count c.args.self.now.set c.open_page.new.self.set (g.H.Shelf.seen c.args.shelf.now) (g.H.Shelf.seen c.open_page.new.shelf) (g.H.Shelf.seen c.append_in-in-None.new.shelf) e.stays.set e.grown.blocks c.append_in-in-None.ensures.leaves.changed),
+    )
+
+pub returns-in_ok-page-in-None-clause-opened : goal.returns-in_ok-page-in-None-clause-opened
+returns-in_ok-page-in-None-clause-opened g c =
+    let e = c.in_ok-page-in-None.ensures in
+    let count = opened_pages c.args.fbff (length c.args.self.now.spaces.items) in
+    on_ok_any c.append_in-in-None.result (λ some. sym (added_is count c.args.self.now.set (g.H.Shelf.seen c.args.shelf.now) (g.H.Shelf.seen c.append_in-in-None.new.shelf)
+    (grown_changed count c.args.self.now.set c.open_page.new.self.set (g.H.Shelf.seen c.args.shelf.now) (g.H.Shelf.seen c.open_page.new.shelf) (g.H.Shelf.seen c.append_in-in-None.new.shelf) e.stays.set e.grown.blocks c.append_in-in-None.ensures.leaves.changed))
+    ∙ ap (opened_pages c.args.fbff) c.requires.stands.many)
+
+pub returns-in_ok-page-in-None-clause-stays : goal.returns-in_ok-page-in-None-clause-stays
+returns-in_ok-page-in-None-clause-stays g c =
+    stays_then c.args.self.now c.open_page.new.self c.append_in-in-None.new.self (g.H.Shelf.seen c.open_page.new.shelf) (g.H.Shelf.seen c.append_in-in-None.new.shelf) c.in_ok-page-in-None.ensures.stays c.append_in-in-None.ensures.stays
+
+pub returns-in_ok-page-in-None-clause-leaves : goal.returns-in_ok-page-in-None-clause-leaves
+returns-in_ok-page-in-None-clause-leaves g c =
+    let e = c.in_ok-page-in-None.ensures in
+    let count = opened_pages c.args.fbff (length c.args.self.now.spaces.items) in
+    grows_only count c.args.self.now.set (g.H.Shelf.seen c.args.shelf.now) (g.H.Shelf.seen c.append_in-in-None.new.shelf)
+    (keeps_then c.open_page.ensures.keeps c.append_in-in-None.ensures.leaves.keeps (g.met.H.Shelf.steady_then c.args.shelf.now c.open_page.new.shelf c.append_in-in-None.new.shelf))
+    (grown_changed count c.args.self.now.set c.open_page.new.self.set (g.H.Shelf.seen c.args.shelf.now) (g.H.Shelf.seen c.open_page.new.shelf) (g.H.Shelf.seen c.append_in-in-None.new.shelf) e.stays.set e.grown.blocks c.append_in-in-None.ensures.leaves.changed)

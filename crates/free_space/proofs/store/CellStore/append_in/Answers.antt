@@ -1,20 +1,40 @@
 use Rattle.std.proofs.Common.{◌+◌, take, drop}
-use Rattle.std.proofs.lemmas.Result.{IfOk-weaker}
-use Rattle.free_space.specs.Layout.{Relaid}
+use Rattle.std.proofs.lemmas.Result.{IfOk-weaker, on_err_weaker}
+use Rattle.hal_base.proofs.ShelfLemmas.{same_then, reads_changes, changes_then}
 use Rattle.free_space.specs.Placing.{TakesHole, AppendsIn}
+use Rattle.free_space.specs.Store.{Relays}
+use Rattle.free_space.proofs.Told.{stands_same, stays_same}
+use Rattle.free_space.proofs.PageSteps.{page_again}
 use Rattle.free_space.proofs.AppendSteps.{appends_in}
 use Rattle.free_space.proofs.store.CellStore.append_in.Goals as goal
 
+pub returns-in_err-tiles-clause-stays : goal.returns-in_err-tiles-clause-stays
+returns-in_err-tiles-clause-stays g c = stays_same c.args.self.now (g.H.Shelf.seen c.args.shelf.now) (g.H.Shelf.seen c.read_page.new.shelf) c.requires.stands c.read_page.ensures.leaves.same
+
+pub returns-in_default-clause-stays : goal.returns-in_default-clause-stays
+returns-in_default-clause-stays g c = stays_same c.args.self.now (g.H.Shelf.seen c.args.shelf.now) (g.H.Shelf.seen c.read_page.new.shelf) c.requires.stands c.read_page.ensures.leaves.same
+
+pub fill_page-requires-clause-stands : goal.fill_page-requires-clause-stands
+fill_page-requires-clause-stands g c = stands_same c.args.self.now (g.H.Shelf.seen c.args.shelf.now) (g.H.Shelf.seen c.read_page.new.shelf) c.requires.stands c.read_page.ensures.leaves.same
+
+pub fill_page-requires-clause-read : goal.fill_page-requires-clause-read
+fill_page-requires-clause-read g c = page_again c.args.self.now.set c.args.page c.read_page.new.block (g.H.Shelf.seen c.args.shelf.now) (g.H.Shelf.seen c.read_page.new.shelf) c.read_page.ensures.leaves.same c.in_ok-tiles.ensures.page
+
 pub returns-clause-appends_in : goal.returns-clause-appends_in
 returns-clause-appends_in g c =
-    let told = g.H.Shelf.pages_in c.args.shelf.now c.args.self.now.set in
-    let mid = g.H.Shelf.pages_in c.read_page.new.shelf c.args.self.now.set in
-    let new = g.H.Shelf.pages_in c.fill_page.new.shelf c.args.self.now.set in
+    let mid = g.H.Shelf.seen c.read_page.new.shelf in
+    let new = g.H.Shelf.seen c.fill_page.new.shelf in
     let gap = c.in-Some.gap in
     let found = c.as_slice-found.result.now in
     IfOk-weaker c.fill_page.result
-    (λ at. Relaid c.args.self.now.shapes mid new (TakesHole c.args.self.now.set c.args.cell.now at c.args.page (take gap.place found) gap.room (drop (gap.place + 1) found)))
-    (λ at. Relaid c.args.self.now.shapes told new (AppendsIn c.args.self.now.set c.args.cell.now at c.args.page))
-    (λ at put. appends_in c.args.self.now.set c.args.self.now.shapes told mid new c.args.cell.now at c.args.page gap.place gap.room found
-    (c.in_ok-tiles.ensures.pages c.args.self.now.set) c.in-Some.ensures.found.last put)
+    (λ at. Relays c.args.self.now mid new (TakesHole c.args.self.now.set c.args.cell.now at c.args.page (take gap.place found) gap.room (drop (gap.place + 1) found)))
+    (λ at. Relays c.args.self.now (g.H.Shelf.seen c.args.shelf.now) new (AppendsIn c.args.self.now.set c.args.cell.now at c.args.page))
+    (λ at put. appends_in c.args.self.now (g.H.Shelf.seen c.args.shelf.now) mid new c.args.cell.now at c.args.page gap.place gap.room found
+    c.read_page.ensures.leaves.same c.in-Some.ensures.found.last put)
     c.fill_page.ensures.takes
+
+pub returns-clause-unchanged : goal.returns-clause-unchanged
+returns-clause-unchanged g c = on_err_weaker c.fill_page.result (λ same. same_then c.read_page.ensures.leaves.same same) c.fill_page.ensures.unchanged
+
+pub returns-clause-leaves : goal.returns-clause-leaves
+returns-clause-leaves g c = changes_then (reads_changes c.args.self.now.set c.read_page.ensures.leaves) c.fill_page.ensures.leaves (g.met.H.Shelf.steady_then c.args.shelf.now c.read_page.new.shelf c.fill_page.new.shelf)

@@ -1,101 +1,94 @@
-use Rattle.std.proofs.Common.{◌≡◌, ℕ, ◌<◌, List, ap, subst, ◌∙◌, arith, length}
-use Rattle.std.specs.Prelude.{slice_get, Some}
-use Rattle.std.specs.Result.{IfOk}
-use Rattle.std.proofs.lemmas.List.{length-map}
-use Rattle.std.proofs.lemmas.Result.{IfOk-weaker, on_err_weaker, err_from_is_err_and}
-use Rattle.hal_base.specs.declared.outcome.PageFault.TheVariants.{NoRoom}
-use Rattle.hal_base.specs.declared.pages.SetId.{SetId}
-use Rattle.hal_base.specs.declared.place.Shape.{Shape}
-use Rattle.segment_blocks.specs.declared.tile.Tile.{Tile}
+use Rattle.std.proofs.Common.{List, sym, ap, subst, ◌∙◌, arith}
+use Rattle.std.proofs.lemmas.Result.{err_from_is_err_and}
+use Rattle.hal_base.specs.declared.outcome.PageFault.TheVariants.{NoRoom, Failed}
+use Rattle.hal_base.proofs.ShelfLemmas.{same_changed, changed_grown, keeps_then, keeps_as}
 use Rattle.segment_blocks.specs.Tiling.{cell_length}
 use Rattle.free_space.specs.declared.space.Space.{Space}
-use Rattle.free_space.specs.Space.{space_of}
-use Rattle.free_space.specs.Layout.{HasLayout, Relaid}
-use Rattle.free_space.specs.Placing.{grown, NoHoleFits, PlacesIn, Places, IsFirstWith}
-use Rattle.free_space.specs.Store.{Grows}
-use Rattle.free_space.proofs.Pages.{handed_on}
-use Rattle.free_space.proofs.PlaceSteps.{knows_this, none_fits, grows_none, grows_same, relaid_none, relaid_kept, on_any_err, placed_here, placed_behind}
+use Rattle.free_space.specs.Map.{layout_of}
+use Rattle.free_space.specs.Placing.{IsFirstWith}
+use Rattle.free_space.proofs.Told.{handed_on, handed_to, added_is, stays_then}
+use Rattle.free_space.proofs.PlaceSteps.{TooSmall, none_fits, placed_here, placed_behind}
+use Rattle.free_space.proofs.GrownSteps.{match_of, match_err, none_added, grows_only, grew_none, grew_same, grew_as, grown_changed}
 use Rattle.free_space.proofs.store.CellStore.place.Goals as goal
+
+pub returns-in-Some-clause-placed : goal.returns-in-Some-clause-placed
+returns-in-Some-clause-placed g c =
+    let old = g.H.Shelf.seen c.args.shelf.now in
+    let new = g.H.Shelf.seen c.place_in.new.shelf in
+    let first = subst (λ (l : List Space). IsFirstWith l c.cell_size-len.result c.in-Some.page) c.deref.ensures.value c.in-Some.ensures.found in
+    match_of c.place_in.result c.place_in.ensures.places_in c.place_in.ensures.unchanged
+    (λ at put. placed_here c.args.self.now old new c.args.cell.now at c.in-Some.page c.cell_size-len.result _ (c.cell_size-len.ensures ∙ ap cell_length c.shape_for.ensures)
+    (sym (none_added c.args.self.now.set old new c.place_in.ensures.leaves.changed)) c.requires.stands first put)
+    (λ same e. (grew_none c.args.self.now old new same).tiles)
+
+pub returns-in-Some-clause-no_room : goal.returns-in-Some-clause-no_room
+returns-in-Some-clause-no_room g c = λ is. absurd (c.place_in.ensures.room is)
+
+pub returns-in-Some-clause-few : goal.returns-in-Some-clause-few
+returns-in-Some-clause-few g c = omega (arith, none_added c.args.self.now.set (g.H.Shelf.seen c.args.shelf.now) (g.H.Shelf.seen c.place_in.new.shelf) c.place_in.ensures.leaves.changed)
+
+pub returns-in-Some-clause-leaves : goal.returns-in-Some-clause-leaves
+returns-in-Some-clause-leaves g c = grows_only 0 c.args.self.now.set (g.H.Shelf.seen c.args.shelf.now) (g.H.Shelf.seen c.place_in.new.shelf) c.place_in.ensures.leaves.keeps (changed_grown c.place_in.ensures.leaves.changed)
+
+pub returns-in_err-page-in-None-clause-placed : goal.returns-in_err-page-in-None-clause-placed
+returns-in_err-page-in-None-clause-placed g c =
+    let p = err_from_is_err_and c.from_residual.result c.from_residual.ensures.1 in
+    match_err _ _ c.from_residual.result p.0 p.1 (λ e. (grew_none c.args.self.now (g.H.Shelf.seen c.args.shelf.now) (g.H.Shelf.seen c.add_page.new.shelf) c.in_err-page-in-None.ensures.grown).tiles)
 
 pub returns-in_err-page-in-None-clause-no_room : goal.returns-in_err-page-in-None-clause-no_room
 returns-in_err-page-in-None-clause-no_room g c = λ is.
     let p = err_from_is_err_and c.from_residual.result c.from_residual.ensures.1 in
     let failed = handed_on c.add_page.result c.from_residual.result p.0 c.in_err-page-in-None.field-0.0 NoRoom p.1 p.2 c.in_err-page-in-None.was is in
-    let size = c.cell_size-len.ensures ∙ ap cell_length c.shape_for.ensures in
-    let e = c.in_err-page-in-None.ensures in (
+    let small = subst (λ (l : List Space). TooSmall l c.cell_size-len.result) c.deref.ensures.value c.in-None.ensures.none in (
       c.add_page.ensures.no_room failed,
-      (λ layout has. subst (λ (n : ℕ). NoHoleFits n layout) size (none_fits c.args.self.now.spaces.items layout c.cell_size-len.result
-          (knows_this c.args.self.now.set c.args.self.now.shapes c.args.self.now.spaces.items (g.H.Shelf.pages_in c.args.shelf.now) (g.H.Shelf.places c.args.shelf.now) layout (c.one_tiling.ensures.tiling c.args.self.now.shapes) c.requires.stands has)
-          (subst (λ (l : List Space). (k : ℕ) (space : Space) → slice_get l k ≡ Some space → space.largest < c.cell_size-len.result) c.deref.ensures.value c.in-None.ensures.none))),
-      e.unchanged,
-      e.unmoved,
-      e.kept,
+      c.in_err-page-in-None.ensures.grown,
+      (λ pages told. none_fits c.args.self.now.spaces.items (layout_of c.args.self.now.shapes pages) c.cell_size-len.result _ (c.cell_size-len.ensures ∙ ap cell_length c.shape_for.ensures) (c.requires.stands.told pages told).spaces_are small),
     )
 
-pub returns-in_err-page-in-None-clause-left : goal.returns-in_err-page-in-None-clause-left
-returns-in_err-page-in-None-clause-left g c =
-    let e = c.in_err-page-in-None.ensures in
-    on_any_err c.from_residual.result (
-      0,
-      omega arith,
-      grows_none c.args.self.now.set (g.H.Shelf.free c.args.shelf.now) (g.H.Shelf.free c.add_page.new.shelf) (g.H.Shelf.places c.args.shelf.now) (g.H.Shelf.places c.add_page.new.shelf) e.kept e.unmoved,
-      relaid_none c.args.self.now.shapes (g.H.Shelf.pages_in c.args.shelf.now c.args.self.now.set) (g.H.Shelf.pages_in c.add_page.new.shelf c.args.self.now.set) (e.unchanged c.args.self.now.set),
-    )
+pub returns-in_err-page-in-None-clause-few : goal.returns-in_err-page-in-None-clause-few
+returns-in_err-page-in-None-clause-few g c =
+    omega (arith, none_added c.args.self.now.set (g.H.Shelf.seen c.args.shelf.now) (g.H.Shelf.seen c.add_page.new.shelf) (same_changed c.args.self.now.set c.in_err-page-in-None.ensures.grown))
 
-pub returns-in-Some-clause-placed : goal.returns-in-Some-clause-placed
-returns-in-Some-clause-placed g c =
-    let size = c.cell_size-len.ensures ∙ ap cell_length c.shape_for.ensures in
-    let first = subst (λ (l : List Space). IsFirstWith l c.cell_size-len.result c.in-Some.page) c.deref.ensures.value c.in-Some.ensures.found in
-    IfOk-weaker c.place_in.result
-    (λ at. Relaid c.args.self.now.shapes (g.H.Shelf.pages_in c.args.shelf.now c.args.self.now.set) (g.H.Shelf.pages_in c.place_in.new.shelf c.args.self.now.set) (PlacesIn c.args.self.now.set c.args.cell.now at c.in-Some.page))
-    (λ at. (count : ℕ) × Grows c.args.self.now.set count (g.H.Shelf.free c.args.shelf.now) (g.H.Shelf.free c.place_in.new.shelf) (g.H.Shelf.places c.args.shelf.now) (g.H.Shelf.places c.place_in.new.shelf) × Relaid c.args.self.now.shapes (g.H.Shelf.pages_in c.args.shelf.now c.args.self.now.set) (g.H.Shelf.pages_in c.place_in.new.shelf c.args.self.now.set) (Places c.args.self.now.set c.args.cell.now count at))
-    (λ at put. (
-      0,
-      grows_none c.args.self.now.set (g.H.Shelf.free c.args.shelf.now) (g.H.Shelf.free c.place_in.new.shelf) (g.H.Shelf.places c.args.shelf.now) (g.H.Shelf.places c.place_in.new.shelf) c.place_in.ensures.free c.place_in.ensures.places,
-      placed_here c.args.self.now.set c.args.self.now.shapes (g.H.Shelf.pages_in c.args.shelf.now c.args.self.now.set) (g.H.Shelf.pages_in c.place_in.new.shelf c.args.self.now.set) c.args.cell.now at c.in-Some.page c.cell_size-len.result c.args.self.now.spaces.items size
-          (λ layout has. knows_this c.args.self.now.set c.args.self.now.shapes c.args.self.now.spaces.items (g.H.Shelf.pages_in c.args.shelf.now) (g.H.Shelf.places c.args.shelf.now) layout (c.one_tiling.ensures.tiling c.args.self.now.shapes) c.requires.stands has) first put,
-    ))
-    c.place_in.ensures.places_in
-
-pub returns-in-Some-clause-left : goal.returns-in-Some-clause-left
-returns-in-Some-clause-left g c =
-    on_err_weaker c.place_in.result (λ same. (
-      0,
-      omega arith,
-      grows_none c.args.self.now.set (g.H.Shelf.free c.args.shelf.now) (g.H.Shelf.free c.place_in.new.shelf) (g.H.Shelf.places c.args.shelf.now) (g.H.Shelf.places c.place_in.new.shelf) c.place_in.ensures.free c.place_in.ensures.places,
-      relaid_none c.args.self.now.shapes (g.H.Shelf.pages_in c.args.shelf.now c.args.self.now.set) (g.H.Shelf.pages_in c.place_in.new.shelf c.args.self.now.set) (same c.args.self.now.set),
-    )) c.place_in.ensures.unchanged
+pub returns-in_err-page-in-None-clause-leaves : goal.returns-in_err-page-in-None-clause-leaves
+returns-in_err-page-in-None-clause-leaves g c =
+    let p = err_from_is_err_and c.from_residual.result c.from_residual.ensures.1 in
+    grows_only 0 c.args.self.now.set (g.H.Shelf.seen c.args.shelf.now) (g.H.Shelf.seen c.add_page.new.shelf)
+    (keeps_as c.add_page.ensures.keeps (handed_to c.add_page.result c.from_residual.result p.0 c.in_err-page-in-None.field-0.0 Failed p.1 p.2 c.in_err-page-in-None.was)
+    (handed_on c.add_page.result c.from_residual.result p.0 c.in_err-page-in-None.field-0.0 Failed p.1 p.2 c.in_err-page-in-None.was))
+    (changed_grown (same_changed c.args.self.now.set c.in_err-page-in-None.ensures.grown))
 
 pub returns-in_ok-page-in-None-clause-placed : goal.returns-in_ok-page-in-None-clause-placed
 returns-in_ok-page-in-None-clause-placed g c =
-    let size = c.cell_size-len.ensures ∙ ap cell_length c.shape_for.ensures in
     let e = c.in_ok-page-in-None.ensures in
-    let known = λ (layout : List (List Tile)) (has : HasLayout c.args.self.now.shapes (g.H.Shelf.pages_in c.args.shelf.now c.args.self.now.set) layout). knows_this c.args.self.now.set c.args.self.now.shapes c.args.self.now.spaces.items (g.H.Shelf.pages_in c.args.shelf.now) (g.H.Shelf.places c.args.shelf.now) layout (c.one_tiling.ensures.tiling c.args.self.now.shapes) c.requires.stands has in
-    IfOk-weaker c.place_in-in-None.result
-    (λ at. Relaid c.args.self.now.shapes (g.H.Shelf.pages_in c.add_page.new.shelf c.args.self.now.set) (g.H.Shelf.pages_in c.place_in-in-None.new.shelf c.args.self.now.set) (PlacesIn c.args.self.now.set c.args.cell.now at c.in_ok-page-in-None.page))
-    (λ at. (count : ℕ) × Grows c.args.self.now.set count (g.H.Shelf.free c.args.shelf.now) (g.H.Shelf.free c.place_in-in-None.new.shelf) (g.H.Shelf.places c.args.shelf.now) (g.H.Shelf.places c.place_in-in-None.new.shelf) × Relaid c.args.self.now.shapes (g.H.Shelf.pages_in c.args.shelf.now c.args.self.now.set) (g.H.Shelf.pages_in c.place_in-in-None.new.shelf c.args.self.now.set) (Places c.args.self.now.set c.args.cell.now count at))
-    (λ at put. (
-      1,
-      grows_same c.args.self.now.set 1 (g.H.Shelf.free c.args.shelf.now) (g.H.Shelf.free c.add_page.new.shelf) (g.H.Shelf.free c.place_in-in-None.new.shelf) (g.H.Shelf.places c.args.shelf.now) (g.H.Shelf.places c.add_page.new.shelf) (g.H.Shelf.places c.place_in-in-None.new.shelf)
-          e.grows c.place_in-in-None.ensures.free c.place_in-in-None.ensures.places,
-      placed_behind c.args.self.now.set c.args.self.now.shapes (g.H.Shelf.pages_in c.args.shelf.now c.args.self.now.set) (g.H.Shelf.pages_in c.add_page.new.shelf c.args.self.now.set) (g.H.Shelf.pages_in c.place_in-in-None.new.shelf c.args.self.now.set) c.args.cell.now at c.in_ok-page-in-None.page
-          (λ layout has. (
-            subst (λ (n : ℕ). NoHoleFits n layout) size (none_fits c.args.self.now.spaces.items layout c.cell_size-len.result (known layout has)
-                (subst (λ (l : List Space). (k : ℕ) (space : Space) → slice_get l k ≡ Some space → space.largest < c.cell_size-len.result) c.deref.ensures.value c.in-None.ensures.none)),
-            e.number ∙ ap length (known layout has) ∙ length-map layout space_of,
-          )) e.grown put,
-    ))
-    (subst (λ (s : SetId). IfOk c.place_in-in-None.result (λ at. Relaid c.args.self.now.shapes (g.H.Shelf.pages_in c.add_page.new.shelf s) (g.H.Shelf.pages_in c.place_in-in-None.new.shelf s) (PlacesIn s c.args.cell.now at c.in_ok-page-in-None.page))) e.set
-    (subst (λ (l : List Shape). IfOk c.place_in-in-None.result (λ at. Relaid l (g.H.Shelf.pages_in c.add_page.new.shelf c.add_page.new.self.set) (g.H.Shelf.pages_in c.place_in-in-None.new.shelf c.add_page.new.self.set) (PlacesIn c.add_page.new.self.set c.args.cell.now at c.in_ok-page-in-None.page))) e.shapes
-    c.place_in-in-None.ensures.places_in))
+    let old = g.H.Shelf.seen c.args.shelf.now in
+    let mid = g.H.Shelf.seen c.add_page.new.shelf in
+    let new = g.H.Shelf.seen c.place_in-in-None.new.shelf in
+    let small = subst (λ (l : List Space). TooSmall l c.cell_size-len.result) c.deref.ensures.value c.in-None.ensures.none in
+    let grown = grown_changed 1 c.args.self.now.set c.add_page.new.self.set old mid new e.stays.set e.grown.blocks c.place_in-in-None.ensures.leaves.changed in
+    match_of c.place_in-in-None.result c.place_in-in-None.ensures.places_in c.place_in-in-None.ensures.unchanged
+    (λ at put. placed_behind c.args.self.now c.add_page.new.self old mid new c.args.cell.now at c.in_ok-page-in-None.page c.cell_size-len.result _ (c.cell_size-len.ensures ∙ ap cell_length c.shape_for.ensures)
+    (sym (added_is 1 c.args.self.now.set old new grown)) e.stays.set e.stays.shapes c.requires.stands small e.number e.grown.tiles put)
+    (λ same f. (grew_as 1 c.args.self.now old new (grew_same 1 c.args.self.now old mid new e.grown same)).tiles)
 
-pub returns-in_ok-page-in-None-clause-left : goal.returns-in_ok-page-in-None-clause-left
-returns-in_ok-page-in-None-clause-left g c =
+pub returns-in_ok-page-in-None-clause-no_room : goal.returns-in_ok-page-in-None-clause-no_room
+returns-in_ok-page-in-None-clause-no_room g c = λ is. absurd (c.place_in-in-None.ensures.room is)
+
+pub returns-in_ok-page-in-None-clause-few : goal.returns-in_ok-page-in-None-clause-few
+returns-in_ok-page-in-None-clause-few g c =
     let e = c.in_ok-page-in-None.ensures in
-    on_err_weaker c.place_in-in-None.result (λ same. (
-      1,
-      omega arith,
-      grows_same c.args.self.now.set 1 (g.H.Shelf.free c.args.shelf.now) (g.H.Shelf.free c.add_page.new.shelf) (g.H.Shelf.free c.place_in-in-None.new.shelf) (g.H.Shelf.places c.args.shelf.now) (g.H.Shelf.places c.add_page.new.shelf) (g.H.Shelf.places c.place_in-in-None.new.shelf)
-          e.grows c.place_in-in-None.ensures.free c.place_in-in-None.ensures.places,
-      relaid_kept c.args.self.now.shapes (g.H.Shelf.pages_in c.args.shelf.now c.args.self.now.set) (g.H.Shelf.pages_in c.add_page.new.shelf c.args.self.now.set) (g.H.Shelf.pages_in c.place_in-in-None.new.shelf c.args.self.now.set) (λ old now. now ≡ grown 1 old) e.grown (same c.args.self.now.set),
-    )) c.place_in-in-None.ensures.unchanged
+    omega (
+      arith,
+      added_is 1 c.args.self.now.set (g.H.Shelf.seen c.args.shelf.now) (g.H.Shelf.seen c.place_in-in-None.new.shelf)
+          (grown_changed 1 c.args.self.now.set c.add_page.new.self.set (g.H.Shelf.seen c.args.shelf.now) (g.H.Shelf.seen c.add_page.new.shelf) (g.H.Shelf.seen c.place_in-in-None.new.shelf) e.stays.set e.grown.blocks c.place_in-in-None.ensures.leaves.changed),
+    )
+
+pub returns-in_ok-page-in-None-clause-stays : goal.returns-in_ok-page-in-None-clause-stays
+returns-in_ok-page-in-None-clause-stays g c =
+    stays_then c.args.self.now c.add_page.new.self c.place_in-in-None.new.self (g.H.Shelf.seen c.add_page.new.shelf) (g.H.Shelf.seen c.place_in-in-None.new.shelf) c.in_ok-page-in-None.ensures.stays c.place_in-in-None.ensures.stays
+
+pub returns-in_ok-page-in-None-clause-leaves : goal.returns-in_ok-page-in-None-clause-leaves
+returns-in_ok-page-in-None-clause-leaves g c =
+    let e = c.in_ok-page-in-None.ensures in
+    grows_only 1 c.args.self.now.set (g.H.Shelf.seen c.args.shelf.now) (g.H.Shelf.seen c.place_in-in-None.new.shelf)
+    (keeps_then c.add_page.ensures.keeps c.place_in-in-None.ensures.leaves.keeps (g.met.H.Shelf.steady_then c.args.shelf.now c.add_page.new.shelf c.place_in-in-None.new.shelf))
+    (grown_changed 1 c.args.self.now.set c.add_page.new.self.set (g.H.Shelf.seen c.args.shelf.now) (g.H.Shelf.seen c.add_page.new.shelf) (g.H.Shelf.seen c.place_in-in-None.new.shelf) e.stays.set e.grown.blocks c.place_in-in-None.ensures.leaves.changed)
