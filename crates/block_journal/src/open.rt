@@ -17,6 +17,7 @@ use crate::redo::settle;
 use hal_base::{BLOCK, Failed, Site};
 use std::alloc::Global;
 
+#[tactic(auto, using(crate::proofs::Calls::exact_stays, crate::proofs::Made::became_later, crate::proofs::OpeningSteps::redo_waits))]
 /// Fills up an image that ends before its last block does, so that no later write leaves a gap.
 pub(crate) fn fill<T: Site>(site: &mut T, first: u64, count: u32) -> Result<(), Failed>
     requires behind { 8192 ≤ first }
@@ -85,6 +86,7 @@ pub(crate) fn read_blocks<T: Site>(
     Ok(blocks)
 }
 
+#[tactic(auto, using(crate::proofs::Calls::exact_stays, crate::proofs::Made::became_later, crate::proofs::Made::became_still, crate::proofs::OpeningSteps::redo_waits))]
 /// Syncs, redoes an open journal or fills up the image, and reads the blocks.
 pub(crate) fn load<T: Site>(
     alloc: Global,
