@@ -12,9 +12,6 @@ use Rattle.block_journal.specs.Placing.{AreWhole, IsOutside, SameBut}
 use Rattle.block_journal.proofs.Images.{SameFrom, HoldsAt, bytes_at-same, bytes_at-is, written_inside, written_outside, length-written}
 use Rattle.block_journal.specs.JournalLaw.{length-put_all}
 
-Blocks : Type 0
-Blocks = List (List ℕ)
-
 -- a change of this number is among them
 abbrev pub IsNamed : ℕ → List Change → Type 0
 IsNamed k [] = ⊥

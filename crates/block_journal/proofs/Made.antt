@@ -71,18 +71,18 @@ became-so more so = record {
 }
 
 -- calls that change nothing
-pub made-waits : {R : List ℕ → List ℕ → Type 0} {image : Option (List ℕ)} {a b : ℕ} {past at : ℕ → List ℕ → List ℕ → Type 0} → Start R image (past a) → LeavesOnly a b past at (past a) → LeavesOnly a b past at (MadeFrom R (past a) image)
-made-waits start only = leaves-weaken only (made-before start)
+pub made_waits : {R : List ℕ → List ℕ → Type 0} {image : Option (List ℕ)} {a b : ℕ} {past at : ℕ → List ℕ → List ℕ → Type 0} → Start R image (past a) → LeavesOnly a b past at (past a) → LeavesOnly a b past at (MadeFrom R (past a) image)
+made_waits start only = leaves-weaken only (made-before start)
 
 -- and then more
-pub made-later : {R : List ℕ → List ℕ → Type 0} {image next : Option (List ℕ)} {a b c : ℕ} {past mid at : ℕ → List ℕ → List ℕ → Type 0} → Start R image (past a) → next ≡ image → LeavesOnly a b past mid (past a) → LeavesOnly b c mid at (MadeFrom R (mid b) next) → LeavesOnly a c past at (MadeFrom R (past a) image)
-made-later start is so_far more = leaves-then (made-waits start so_far) more (λ x s from. (λ y told. from.0 y (is ∙ told), (from.1.0, leaves-now so_far (λ x s left. left) from.1.0 s from.1.1)))
+pub made_later : {R : List ℕ → List ℕ → Type 0} {image next : Option (List ℕ)} {a b c : ℕ} {past mid at : ℕ → List ℕ → List ℕ → Type 0} → Start R image (past a) → next ≡ image → LeavesOnly a b past mid (past a) → LeavesOnly b c mid at (MadeFrom R (mid b) next) → LeavesOnly a c past at (MadeFrom R (past a) image)
+made_later start is so_far more = leaves-then (made_waits start so_far) more (λ x s from. (λ y told. from.0 y (is ∙ told), (from.1.0, leaves-now so_far (λ x s left. left) from.1.0 s from.1.1)))
 
-pub became-later : {R : List ℕ → List ℕ → Type 0} {image next last : Option (List ℕ)} → next ≡ image → Became R next last → Became R image last
-became-later is more = record { told = λ y told. more.told y (is ∙ told); untold = λ none. more.untold (is ∙ none) }
+pub became_later : {R : List ℕ → List ℕ → Type 0} {image next last : Option (List ℕ)} → next ≡ image → Became R next last → Became R image last
+became_later is more = record { told = λ y told. more.told y (is ∙ told); untold = λ none. more.untold (is ∙ none) }
 
-pub became-still : {R : List ℕ → List ℕ → Type 0} {image next last : Option (List ℕ)} → Became R image next → last ≡ next → Became R image last
-became-still more is = record {
+pub became_still : {R : List ℕ → List ℕ → Type 0} {image next last : Option (List ℕ)} → Became R image next → last ≡ next → Became R image last
+became_still more is = record {
   told = λ y told.
       let t = more.told y told in
       (t.0, is ∙ t.1, t.2);

@@ -42,11 +42,8 @@ module _ (first count : ℕ) (cs : List Change) (c : Change) (among : (i : ℕ) 
 
 pub image_end : (first : ℕ) (cs : List Change) (image : Option (List ℕ)) → cs ≡ [] → option_map (put_image first cs) image ≡ image
 unfolding put_image
-image_end first cs image is = ap (λ (l : List Change). option_map (put_image first l) image) is ∙ none image
-  where
-    none : (image : Option (List ℕ)) → option_map (put_image first []) image ≡ image
-    none None = refl
-    none (Some x) = refl
+image_end first cs None is = refl
+image_end first cs (Some x) is = ap (λ (l : List Change). Some (put_image first l x)) is
 
 pub image_next : (first : ℕ) (cs rest : List Change) (c : Change) (image next : Option (List ℕ)) → cs ≡ c ∷ rest → next ≡ option_map (written (first + 4096 * c.0) c.1) image → option_map (put_image first rest) next ≡ option_map (put_image first cs) image
 unfolding put_image

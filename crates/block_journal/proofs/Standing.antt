@@ -17,7 +17,6 @@ use Rattle.block_journal.specs.Front.{KeepsFront}
 use Rattle.block_journal.specs.Redo.{blocks_at, redone, put_all, are_changes}
 use Rattle.block_journal.specs.Stands.{Stands, told_where, say_room}
 use Rattle.block_journal.specs.Steady.{IsSteady}
-use Rattle.block_journal.proofs.Made.{became-so}
 use Rattle.block_journal.proofs.Rising.{are_few, put_in_blocks, put_in_changes}
 use Rattle.block_journal.specs.JournalLaw.{became-waits, keeps_refl, told_redone}
 

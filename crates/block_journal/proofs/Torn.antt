@@ -41,10 +41,6 @@ module _ (first count : ℕ) (cs : List Change) (x : List ℕ) (b : Begins first
       redone_closed first count y (gate_same y x (same.byte 4096 (inl (omega (arith, b.behind)))) ∙ b.closed)
       ∙ blocks_at-ext first count y x (record { byte = λ i low high. same.byte i (inl high) })
 
-  -- the image with the body
-  abbrev staged : List ℕ
-  staged = written (first + 4096 * count) (body_bytes cs) x
-
   staged_outside : SameOutside (first + 4096 * count) (length (body_bytes cs)) (written (first + 4096 * count) (body_bytes cs) x) x
   staged_outside = written_outside (first + 4096 * count) (body_bytes cs) x b.long
 
@@ -130,10 +126,6 @@ module _ (first count : ℕ) (cs : List Change) (x : List ℕ) (b : Begins first
 
   gated_front : (y : List ℕ) → Torn 4096 1 (written (first + 4096 * count) (body_bytes cs) x) y → KeepsFront first count x y
   gated_front y torn = keeps_then staged_front (gate_front first count (written (first + 4096 * count) (body_bytes cs) x) y b.behind long_staged (has_body (written (first + 4096 * count) (body_bytes cs) x) (λ i le. refl) (omega arith)) torn)
-
-  -- the image with an open gate
-  abbrev opened : List ℕ
-  opened = written 4096 (1 ∷ []) (written (first + 4096 * count) (body_bytes cs) x)
 
   opened_outside : SameOutside 4096 1 (written 4096 (1 ∷ []) (written (first + 4096 * count) (body_bytes cs) x)) (written (first + 4096 * count) (body_bytes cs) x)
   opened_outside = written_outside 4096 (1 ∷ []) (written (first + 4096 * count) (body_bytes cs) x) staged_long

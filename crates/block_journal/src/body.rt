@@ -1,8 +1,7 @@
 // The body of an open journal, as an opening reads it.
 ghost use Rattle.std.specs.Prelude.{◌≡◌, ◌+◌, ◌-◌, ◌*◌, ◌^◌, ◌<◌, ◌≤◌, ℕ, List, Option, Some, length, IfOk, IfSome, IsErrOf, IsTrue, true};
 ghost use Rattle.hal_base.specs.Fault.{HasCause, HasCauseFor};
-ghost use Rattle.hal_base.specs.Room.{HasRoom};
-ghost use Rattle.hal_base.specs.Stops.{LeavesOnly};
+ghost use Rattle.block_journal.specs.Device.{Looks};
 ghost use Rattle.block_journal.specs.Body.{AreThere, HasBody};
 ghost use Rattle.block_journal.specs.Reads.{ReadsWhole, ReadsNumber, ReadsChange, ReadsSize, ReadsBody, LacksBody};
 ghost use Rattle.block_journal.specs.Redo.{changes_at, are_changes};
@@ -20,12 +19,8 @@ fn read_whole<T: Site>(site: &mut T, at: u64, bytes: &mut [u8]) -> Result<bool, 
     requires some { 0 < length bytes.old }
     ensures whole { IfOk result (λ whole. ReadsWhole at (T.image site.old) whole bytes.new) }
     ensures length { length bytes.new ≡ length bytes.old }
-    ensures image { T.image site.new ≡ T.image site.old }
-    ensures stops { LeavesOnly (T.moment site.old) (T.moment site.new) (T.left_at site.old) (T.left_at site.new) (T.left_at site.old (T.moment site.old)) }
+    ensures leaves { Looks T.image T.said T.moment T.left_at T.disk_faults T.say_faults T.room site.old site.new }
     ensures cause { HasCause (T.disk_faults site.old) (T.disk_faults site.new) result }
-    ensures said { T.said site.new ≡ T.said site.old }
-    ensures say_faults { T.say_faults site.new ≡ T.say_faults site.old }
-    ensures room { HasRoom (T.room site.old) (T.room site.new) (T.disk_faults site.old) (T.disk_faults site.new) (λ room. 0 ≤ room.0) }
 {
     let read = site.read_at(at, bytes)?;
     Ok(read == bytes.len())
@@ -35,12 +30,8 @@ fn read_whole<T: Site>(site: &mut T, at: u64, bytes: &mut [u8]) -> Result<bool, 
 fn read_number<T: Site>(site: &mut T, at: u64) -> Result<Option<u32>, Failed>
     requires { at + 4 ≤ 2 ^ 63 - 1 }
     ensures number { IfOk result (λ number. ReadsNumber at (T.image site.old) number) }
-    ensures image { T.image site.new ≡ T.image site.old }
-    ensures stops { LeavesOnly (T.moment site.old) (T.moment site.new) (T.left_at site.old) (T.left_at site.new) (T.left_at site.old (T.moment site.old)) }
+    ensures leaves { Looks T.image T.said T.moment T.left_at T.disk_faults T.say_faults T.room site.old site.new }
     ensures cause { HasCause (T.disk_faults site.old) (T.disk_faults site.new) result }
-    ensures said { T.said site.new ≡ T.said site.old }
-    ensures say_faults { T.say_faults site.new ≡ T.say_faults site.old }
-    ensures room { HasRoom (T.room site.old) (T.room site.new) (T.disk_faults site.old) (T.disk_faults site.new) (λ room. 0 ≤ room.0) }
 {
     let mut bytes = [0u8; 4];
     if read_whole(site, at, &mut bytes)? {
@@ -55,12 +46,8 @@ fn read_change<T: Site>(site: &mut T, at: u64) -> Result<Option<(u32, [u8; BLOCK
     requires { at + 4100 ≤ 2 ^ 63 - 1 }
     ensures change { IfOk result (λ change. ReadsChange at (T.image site.old) change) }
     ensures whole { IfOk result (λ change. IfSome change (λ change. length change.1 ≡ BLOCK)) }
-    ensures image { T.image site.new ≡ T.image site.old }
-    ensures stops { LeavesOnly (T.moment site.old) (T.moment site.new) (T.left_at site.old) (T.left_at site.new) (T.left_at site.old (T.moment site.old)) }
+    ensures leaves { Looks T.image T.said T.moment T.left_at T.disk_faults T.say_faults T.room site.old site.new }
     ensures cause { HasCause (T.disk_faults site.old) (T.disk_faults site.new) result }
-    ensures said { T.said site.new ≡ T.said site.old }
-    ensures say_faults { T.say_faults site.new ≡ T.say_faults site.old }
-    ensures room { HasRoom (T.room site.old) (T.room site.new) (T.disk_faults site.old) (T.disk_faults site.new) (λ room. 0 ≤ room.0) }
 {
     let Some(number) = read_number(site, at)? else {
         return Ok(None);
@@ -78,12 +65,8 @@ fn read_size<T: Site>(site: &mut T, first: u64, count: u32) -> Result<u32, LoadF
     requires near { first ≤ 2 ^ 30 }
     ensures size { IfOk result (λ n. ReadsSize first count (T.image site.old) n) }
     ensures damaged { IsErrOf result LoadFault.Damaged → LacksBody first count (T.image site.old) }
-    ensures image { T.image site.new ≡ T.image site.old }
-    ensures stops { LeavesOnly (T.moment site.old) (T.moment site.new) (T.left_at site.old) (T.left_at site.new) (T.left_at site.old (T.moment site.old)) }
+    ensures leaves { Looks T.image T.said T.moment T.left_at T.disk_faults T.say_faults T.room site.old site.new }
     ensures cause { HasCauseFor (T.disk_faults site.old) (T.disk_faults site.new) result LoadFault.DiskFault }
-    ensures said { T.said site.new ≡ T.said site.old }
-    ensures say_faults { T.say_faults site.new ≡ T.say_faults site.old }
-    ensures room { HasRoom (T.room site.old) (T.room site.new) (T.disk_faults site.old) (T.disk_faults site.new) (λ room. 0 ≤ room.0) }
 {
     let at = place_of(first, count);
     let Some(n) = read_number(site, at)? else {
@@ -111,12 +94,8 @@ fn read_changes<T: Site>(
     ensures changes { IfOk result (λ changes. (image : List ℕ) → T.image site.old ≡ Some image → AreThere at n count image × (changes.entries ≡ changes_at at n image)) }
     ensures rise { IfOk result (λ changes. IsTrue (are_changes 0 count changes.entries)) }
     ensures damaged { IsErrOf result LoadFault.Damaged → (image : List ℕ) → T.image site.old ≡ Some image → AreThere at n count image → ⊥ }
-    ensures image { T.image site.new ≡ T.image site.old }
-    ensures stops { LeavesOnly (T.moment site.old) (T.moment site.new) (T.left_at site.old) (T.left_at site.new) (T.left_at site.old (T.moment site.old)) }
+    ensures leaves { Looks T.image T.said T.moment T.left_at T.disk_faults T.say_faults T.room site.old site.new }
     ensures cause { HasCauseFor (T.disk_faults site.old) (T.disk_faults site.new) result LoadFault.DiskFault }
-    ensures said { T.said site.new ≡ T.said site.old }
-    ensures say_faults { T.say_faults site.new ≡ T.say_faults site.old }
-    ensures room { HasRoom (T.room site.old) (T.room site.new) (T.disk_faults site.old) (T.disk_faults site.new) (λ room. 0 ≤ room.0) }
 {
     let mut changes = BTreeMap::new(alloc);
     let mut least = 0u32;
@@ -145,12 +124,8 @@ pub(crate) fn read_body<T: Site>(
     ensures body { IfOk result (λ changes. ReadsBody first count (T.image site.old) changes.entries) }
     ensures rise { IfOk result (λ changes. IsTrue (are_changes 0 count changes.entries)) }
     ensures damaged { IsErrOf result LoadFault.Damaged → LacksBody first count (T.image site.old) }
-    ensures image { T.image site.new ≡ T.image site.old }
-    ensures stops { LeavesOnly (T.moment site.old) (T.moment site.new) (T.left_at site.old) (T.left_at site.new) (T.left_at site.old (T.moment site.old)) }
+    ensures leaves { Looks T.image T.said T.moment T.left_at T.disk_faults T.say_faults T.room site.old site.new }
     ensures cause { HasCauseFor (T.disk_faults site.old) (T.disk_faults site.new) result LoadFault.DiskFault }
-    ensures said { T.said site.new ≡ T.said site.old }
-    ensures say_faults { T.say_faults site.new ≡ T.say_faults site.old }
-    ensures room { HasRoom (T.room site.old) (T.room site.new) (T.disk_faults site.old) (T.disk_faults site.new) (λ room. 0 ≤ room.0) }
 {
     let n = read_size(site, first, count)?;
     read_changes(alloc, site, place_of(first, count) + 8, count, n)

@@ -12,6 +12,7 @@ ghost use Rattle.block_journal.specs.Redo.{journal_start, put_image};
 use crate::change::Changes;
 use hal_base::{BLOCK, Failed, Site};
 
+#[tactic(auto, using(crate::proofs::Calls::torn_told, crate::proofs::Calls::written_told))]
 /// Writes from `at` on, and syncs.
 pub(crate) fn write_synced<T: Site>(site: &mut T, at: u64, content: &[u8]) -> Result<(), Failed>
     requires { at + length content.now ≤ 2 ^ 63 - 1 }
@@ -57,6 +58,7 @@ fn write_block<T: Site>(
     site.write_at(place_of(first, number), block)
 }
 
+#[tactic(auto, using(crate::proofs::Made::became_still))]
 /// Writes the blocks to their places in order, and syncs.
 pub(crate) fn write_blocks<T: Site>(
     site: &mut T,

@@ -3,7 +3,7 @@ ghost use Rattle.std.specs.Prelude.{◌≡◌, ◌+◌, ◌-◌, ◌*◌, ◌^�
 ghost use Rattle.hal_base.specs.Fault.{HasCause, HasCauseFor};
 ghost use Rattle.hal_base.specs.Room.{HasRoom};
 ghost use Rattle.hal_base.specs.Stops.{LeavesOnly};
-ghost use Rattle.block_journal.specs.Device.{Became, MadeFrom, IsExact};
+ghost use Rattle.block_journal.specs.Device.{Became, Looks, MadeFrom, IsExact};
 ghost use Rattle.block_journal.specs.Opening.{ReadsBlock, ReadsBlocks, IsReady};
 ghost use Rattle.block_journal.specs.Commit.{last_byte};
 ghost use Rattle.block_journal.specs.Redo.{journal_start, is_open};
@@ -17,6 +17,7 @@ use crate::redo::settle;
 use hal_base::{BLOCK, Failed, Site};
 use std::alloc::Global;
 
+#[tactic(auto, using(crate::proofs::Calls::exact_stays, crate::proofs::Made::became_later, crate::proofs::OpeningSteps::redo_waits))]
 /// Fills up an image that ends before its last block does, so that no later write leaves a gap.
 pub(crate) fn fill<T: Site>(site: &mut T, first: u64, count: u32) -> Result<(), Failed>
     requires behind { 8192 ≤ first }
@@ -42,12 +43,8 @@ pub(crate) fn fill<T: Site>(site: &mut T, first: u64, count: u32) -> Result<(), 
 /// Whether the gate is open.
 pub(crate) fn read_gate<T: Site>(site: &mut T) -> Result<bool, Failed>
     ensures gate { IfOk result (λ opened. (image : List ℕ) → T.image site.old ≡ Some image → opened ≡ is_open image) }
-    ensures image { T.image site.new ≡ T.image site.old }
-    ensures stops { LeavesOnly (T.moment site.old) (T.moment site.new) (T.left_at site.old) (T.left_at site.new) (T.left_at site.old (T.moment site.old)) }
+    ensures leaves { Looks T.image T.said T.moment T.left_at T.disk_faults T.say_faults T.room site.old site.new }
     ensures cause { HasCause (T.disk_faults site.old) (T.disk_faults site.new) result }
-    ensures said { T.said site.new ≡ T.said site.old }
-    ensures say_faults { T.say_faults site.new ≡ T.say_faults site.old }
-    ensures room { HasRoom (T.room site.old) (T.room site.new) (T.disk_faults site.old) (T.disk_faults site.new) (λ room. 0 ≤ room.0) }
 {
     let mut gate = [0u8; 1];
     let read = site.read_at(GATE, &mut gate)?;
@@ -58,12 +55,8 @@ pub(crate) fn read_gate<T: Site>(site: &mut T) -> Result<bool, Failed>
 fn read_block<T: Site>(site: &mut T, at: u64, block: &mut [u8; BLOCK]) -> Result<(), Failed>
     requires { at + 4096 ≤ 2 ^ 63 - 1 }
     ensures block { OnOk result (ReadsBlock at (T.image site.old) block.new) }
-    ensures image { T.image site.new ≡ T.image site.old }
-    ensures stops { LeavesOnly (T.moment site.old) (T.moment site.new) (T.left_at site.old) (T.left_at site.new) (T.left_at site.old (T.moment site.old)) }
+    ensures leaves { Looks T.image T.said T.moment T.left_at T.disk_faults T.say_faults T.room site.old site.new }
     ensures cause { HasCause (T.disk_faults site.old) (T.disk_faults site.new) result }
-    ensures said { T.said site.new ≡ T.said site.old }
-    ensures say_faults { T.say_faults site.new ≡ T.say_faults site.old }
-    ensures room { HasRoom (T.room site.old) (T.room site.new) (T.disk_faults site.old) (T.disk_faults site.new) (λ room. 0 ≤ room.0) }
 {
     site.read_at(at, block)?;
     Ok(())
@@ -81,12 +74,8 @@ pub(crate) fn read_blocks<T: Site>(
     ensures count { IfOk result (λ blocks. length blocks.items ≡ count) }
     ensures whole { IfOk result (λ blocks. All (λ block. length block ≡ BLOCK) blocks.items) }
     ensures damaged { IsErrOf result LoadFault.Damaged → ⊥ }
-    ensures image { T.image site.new ≡ T.image site.old }
-    ensures stops { LeavesOnly (T.moment site.old) (T.moment site.new) (T.left_at site.old) (T.left_at site.new) (T.left_at site.old (T.moment site.old)) }
+    ensures leaves { Looks T.image T.said T.moment T.left_at T.disk_faults T.say_faults T.room site.old site.new }
     ensures cause { HasCauseFor (T.disk_faults site.old) (T.disk_faults site.new) result LoadFault.DiskFault }
-    ensures said { T.said site.new ≡ T.said site.old }
-    ensures say_faults { T.say_faults site.new ≡ T.say_faults site.old }
-    ensures room { HasRoom (T.room site.old) (T.room site.new) (T.disk_faults site.old) (T.disk_faults site.new) (λ room. 0 ≤ room.0) }
 {
     let mut blocks = Vec::new(alloc);
     let mut block = [0u8; BLOCK];
@@ -97,6 +86,7 @@ pub(crate) fn read_blocks<T: Site>(
     Ok(blocks)
 }
 
+#[tactic(auto, using(crate::proofs::Calls::exact_stays, crate::proofs::Made::became_later, crate::proofs::Made::became_still, crate::proofs::OpeningSteps::redo_waits))]
 /// Syncs, redoes an open journal or fills up the image, and reads the blocks.
 pub(crate) fn load<T: Site>(
     alloc: Global,

@@ -1,10 +1,19 @@
-// The four steps of a commit. The body stands behind the blocks; the gate is the first byte of the second
-// block of the image:
+// The four steps of a commit, and what they write.
+//
+// The image has the volume's head, the gate's block, other blocks up to the byte `first`, then the blocks of the
+// journal, numbered from 0, and behind the last one the body. All numbers of the body are big-endian:
+//
+//   4 bytes      how many blocks it has, at least 1
+//   4 bytes      the number 1
+//   4,100 bytes  for each block, in rising order: its number in 4 bytes, and its 4,096 bytes
+//
+// The gate is the first byte of its block: 1 is open, every other value is closed. A commit is
 //
 //   body  sync  |  gate 1  sync  |  blocks  sync  |  gate 0  sync
 //
 // Until the gate is open, a stop leaves the blocks as they were. From then on the body redoes them, however
-// much of them was written, so the new blocks are kept. The gate closes once they are on the disk.
+// much of them was written, so the new blocks are kept. The gate closes once they are on the disk. The last two
+// steps are the redo of the journal that is open then, as an opening does it.
 ghost use Rattle.std.specs.Prelude.{◌≡◌, ◌+◌, ◌*◌, ◌^◌, ◌<◌, ◌≤◌, ℕ, List, length, OnOk, IsTrue};
 ghost use Rattle.hal_base.specs.Fault.{HasCause};
 ghost use Rattle.hal_base.specs.Room.{HasRoom};

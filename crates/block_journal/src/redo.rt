@@ -46,6 +46,7 @@ pub(crate) fn redo_changes<T: Site>(
     write_synced(site, GATE, &[0])
 }
 
+#[tactic(auto, using(crate::proofs::Calls::exact_stays, crate::proofs::Made::became_later, crate::proofs::OpeningSteps::redo_waits))]
 /// Redoes the journal of an image whose gate is open. Where its body isn't as the layout asks, nothing is written.
 fn redo<T: Site>(alloc: Global, site: &mut T, first: u64, count: u32) -> Result<(), LoadFault>
     requires behind { 8192 ≤ first }
@@ -69,6 +70,7 @@ fn redo<T: Site>(alloc: Global, site: &mut T, first: u64, count: u32) -> Result<
     Ok(())
 }
 
+#[tactic(auto, using(crate::proofs::Calls::exact_stays, crate::proofs::Made::became_later, crate::proofs::OpeningSteps::redo_waits))]
 /// Redoes an open journal; fills up the image where the gate is closed. An image whose body lies in full behind
 /// its blocks is long enough.
 pub(crate) fn settle<T: Site>(

@@ -93,3 +93,17 @@ fn a_file_is_read_back(rt: HostRuntime) -> Result<(), Fail> {
     assert!(rt; absent.read_at(0, &mut read).is_err());
     Ok(())
 }
+
+// What the null device can't do a sync asks of it, and the full device takes no byte.
+#[test]
+fn a_sync_and_a_write_are_asked_of_the_system(rt: HostRuntime) -> Result<(), Fail> {
+    let alloc = rt.alloc();
+    let null = Bytes::from_slice(alloc, b"/dev/null")?;
+    let mut null = FileSite::new(rt.clone()?, null, false);
+    assert!(rt; null.write_at(0, b"x").is_ok());
+    assert!(rt; null.sync().is_err());
+    let full = Bytes::from_slice(alloc, b"/dev/full")?;
+    let mut full = FileSite::new(rt.clone()?, full, false);
+    assert!(rt; full.write_at(0, b"x").is_err());
+    Ok(())
+}

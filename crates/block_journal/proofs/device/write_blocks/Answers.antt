@@ -7,7 +7,6 @@ use Rattle.block_journal.specs.JournalLaw.{became-waits}
 use Rattle.block_journal.specs.Placing.{AreWhole, IsOutside, Places, PlacedFrom}
 use Rattle.block_journal.specs.Redo.{put_image}
 use Rattle.block_journal.proofs.Calls.{on_ok, room-same, room-then}
-use Rattle.block_journal.proofs.Made.{became-still}
 use Rattle.block_journal.proofs.Placing.{image_end, image_next, placed_next, told_next, places_same}
 use Rattle.block_journal.proofs.device.write_blocks.Goals as goal
 
@@ -43,9 +42,6 @@ returns-in_err-write_block-clause-told g c =
     let turn : c.loop-number.number-iterator ≡ (c.in-Some.number.now, c.in-Some.block.now) ∷ c.next.new.self = rest_more deref_pair c.loop-number.number-iterator c.next.new.self c.next.result (c.in-Some.number, c.in-Some.block) c.in-Some.is c.next.ensures.steps in
     let among : (i : ℕ) → IsOutside c.args.first c.args.changes.now.entries i → IsOutside c.args.first ((c.in-Some.number.now, c.in-Some.block.now) ∷ c.next.new.self) i = λ i out. subst (λ (l : List Change). IsOutside c.args.first l i) turn (c.loop-number.invariant.among i out) in
     told_next c.args.first c.args.count c.args.changes.now.entries (c.in-Some.number.now, c.in-Some.block.now) (λ i out. ((among i out).0, tt)) c.loop-number.invariant.told c.write_block.ensures.told
-
-pub returns-clause-told : goal.returns-clause-told
-returns-clause-told g c = became-still c.loop-number.invariant.told c.sync.ensures.image
 
 pub returns-clause-image : goal.returns-clause-image
 returns-clause-image g c = on_ok c.sync.result (c.sync.ensures.image ∙ sym (image_end c.args.first c.loop-number.number-iterator (g.T.Site.image c.loop-number.site) (rest_all deref_pair c.loop-number.number-iterator c.next.new.self c.next.result c.in-None.is c.next.ensures.steps)) ∙ c.loop-number.invariant.image)

@@ -1,19 +1,16 @@
 use Rattle.std.proofs.Common.{◌≡◌, ◌∙◌, ◌-◌, [], ◌∷◌, length, ap, arith, rules, option_map}
 use Rattle.hal_base.specs.Disk.{written}
-use Rattle.block_journal.proofs.Calls.{exact-stays, if_ok}
-use Rattle.block_journal.proofs.Made.{made-waits, made-later, became-later}
-use Rattle.block_journal.proofs.OpeningSteps.{redo_start, redo_waits, fill_stops, fill_told}
+use Rattle.block_journal.proofs.Calls.{if_ok}
+use Rattle.block_journal.proofs.Made.{made_waits, made_later, became_later}
+use Rattle.block_journal.proofs.OpeningSteps.{redo_start, fill_stops, fill_told}
 use Rattle.block_journal.proofs.Reading.{ready_filled, short_from}
 use Rattle.block_journal.proofs.open.fill.Goals as goal
 
 pub returns-in_err-read_at-clause-stops : goal.returns-in_err-read_at-clause-stops
-returns-in_err-read_at-clause-stops g c = made-waits (redo_start c.args.first c.args.count c.requires.exact) c.read_at.ensures.stops
-
-pub returns-then-branch-eq1-clause-exact : goal.returns-then-branch-eq1-clause-exact
-returns-then-branch-eq1-clause-exact g c = exact-stays c.read_at.ensures.image c.requires.exact c.read_at.ensures.stops
+returns-in_err-read_at-clause-stops g c = made_waits (redo_start c.args.first c.args.count c.requires.exact) c.read_at.ensures.stops
 
 pub returns-then-branch-eq1-clause-stops : goal.returns-then-branch-eq1-clause-stops
-returns-then-branch-eq1-clause-stops g c = made-waits (redo_start c.args.first c.args.count c.requires.exact) c.read_at.ensures.stops
+returns-then-branch-eq1-clause-stops g c = made_waits (redo_start c.args.first c.args.count c.requires.exact) c.read_at.ensures.stops
 
 pub returns-clause-ready : goal.returns-clause-ready
 returns-clause-ready g c =
@@ -24,19 +21,13 @@ returns-clause-ready g c =
 pub returns-clause-stops : goal.returns-clause-stops
 returns-clause-stops g c =
     let one : length c.read_at.new.buf ≡ 1 = search rules in
-    made-later (redo_start c.args.first c.args.count c.requires.exact) c.read_at.ensures.image c.read_at.ensures.stops
+    made_later (redo_start c.args.first c.args.count c.requires.exact) c.read_at.ensures.image c.read_at.ensures.stops
     (fill_stops c.args.first c.args.count (c.place_of-end.result - 1) 1 (g.T.Site.image c.read_at.new.self) (omega (arith, c.place_of-end.ensures, c.requires.behind))
     (λ y told. short_from (c.place_of-end.result - 1) c.in_ok-read_at.field-0 c.read_at.new.buf (g.T.Site.image c.read_at.new.self) y told (rw c.read_at.ensures.image c.in_ok-read_at.ensures.bytes) one c.in_ok-read_at.ensures.within c.if-branch-eq1.false) c.write_synced.ensures.stops)
 
 pub returns-clause-told : goal.returns-clause-told
 returns-clause-told g c =
     let one : length c.read_at.new.buf ≡ 1 = search rules in
-    became-later c.read_at.ensures.image
+    became_later c.read_at.ensures.image
     (fill_told c.args.first c.args.count (c.place_of-end.result - 1) 1 (g.T.Site.image c.read_at.new.self) (omega (arith, c.place_of-end.ensures, c.requires.behind))
     (λ y told. short_from (c.place_of-end.result - 1) c.in_ok-read_at.field-0 c.read_at.new.buf (g.T.Site.image c.read_at.new.self) y told (rw c.read_at.ensures.image c.in_ok-read_at.ensures.bytes) one c.in_ok-read_at.ensures.within c.if-branch-eq1.false) c.write_synced.ensures.told)
-
-pub returns-in_err-read_at-clause-told : goal.returns-in_err-read_at-clause-told
-returns-in_err-read_at-clause-told g c = redo_waits c.args.first c.args.count c.read_at.ensures.image
-
-pub returns-then-branch-eq1-clause-told : goal.returns-then-branch-eq1-clause-told
-returns-then-branch-eq1-clause-told g c = redo_waits c.args.first c.args.count c.read_at.ensures.image

@@ -1,9 +1,8 @@
-use Rattle.std.proofs.Common.{◌≡◌, ◌∙◌, ◌++◌, ◌∷◌, [], ℕ, List, length, sym, ap, subst, refl, arith, rules, length-append}
+use Rattle.std.proofs.Common.{◌≡◌, ◌∙◌, ◌++◌, ◌∷◌, [], ℕ, List, length, sym, ap, subst, arith, rules, length-append}
 use Rattle.std.specs.Prelude.{All}
-use Rattle.hal_base.proofs.StopLemmas.{not_yet, leaves-stay}
 use Rattle.block_journal.specs.Opening.{ReadsBlock}
 use Rattle.block_journal.proofs.Reading.{blocks_begin, blocks_more, whole_more}
-use Rattle.block_journal.proofs.Calls.{room-same, room-then}
+use Rattle.block_journal.proofs.Calls.{looks_none, looks_then}
 use Rattle.block_journal.proofs.open.read_blocks.Goals as goal
 
 pub loop-number-init : goal.loop-number-init
@@ -11,12 +10,7 @@ loop-number-init g c = record {
   blocks = λ y told long. c.new-blocks.ensures.items ∙ blocks_begin c.args.first y;
   many = ap length c.new-blocks.ensures.items;
   whole = λ k d lt. absurd (omega (arith, lt, ap length c.new-blocks.ensures.items));
-  image = refl;
-  stops = not_yet (g.T.Site.moment c.args.site.now) (g.T.Site.left_at c.args.site.now) _;
-  faults = omega arith;
-  said = refl;
-  say_faults = refl;
-  room = room-same (g.T.Site.room c.args.site.now) (g.T.Site.disk_faults c.args.site.now) _;
+  leaves = looks_none c.args.site.now;
 }
 
 pub loop-number-preserved : goal.loop-number-preserved
@@ -27,22 +21,8 @@ loop-number-preserved g c =
     let pushed : c.push.new.self.items ≡ old ++ block ∷ [] = c.in_ok-push.ensures.items in
     let read = c.in_ok-read_block.ensures.block in
     record {
-      blocks = λ y told far. pushed ∙ blocks_more c.args.first c.loop-number.number c.args.count (g.T.Site.image c.args.site.now) (g.T.Site.image c.loop-number.site) old block c.loop-number.invariant.image c.loop-number-test.true c.loop-number.invariant.blocks (subst (λ (at : ℕ). ReadsBlock at (g.T.Site.image c.loop-number.site) block) c.place_of.ensures read) y told far;
+      blocks = λ y told far. pushed ∙ blocks_more c.args.first c.loop-number.number c.args.count (g.T.Site.image c.args.site.now) (g.T.Site.image c.loop-number.site) old block c.loop-number.invariant.leaves.same c.loop-number-test.true c.loop-number.invariant.blocks (subst (λ (at : ℕ). ReadsBlock at (g.T.Site.image c.loop-number.site) block) c.place_of.ensures read) y told far;
       many = omega (arith, ap length pushed, length-append old (block ∷ []), c.loop-number.invariant.many);
       whole = subst (λ (l : List (List ℕ)). All (λ block. length block ≡ 4096) l) (sym pushed) (whole_more old block c.loop-number.invariant.whole long);
-      image = c.read_block.ensures.image ∙ c.loop-number.invariant.image;
-      stops = leaves-stay c.loop-number.invariant.stops c.read_block.ensures.stops (λ x s left. left);
-      faults = omega (arith, c.loop-number.invariant.faults, c.read_block.ensures.cause.later);
-      said = c.read_block.ensures.said ∙ c.loop-number.invariant.said;
-      say_faults = c.read_block.ensures.say_faults ∙ c.loop-number.invariant.say_faults;
-      room = room-then c.loop-number.invariant.room c.read_block.ensures.room (omega arith);
+      leaves = looks_then c.loop-number.invariant.leaves c.read_block.ensures.leaves;
     }
-
-pub returns-in_err-read_block-clause-room : goal.returns-in_err-read_block-clause-room
-returns-in_err-read_block-clause-room g c = room-then c.loop-number.invariant.room c.read_block.ensures.room (omega arith)
-
-pub returns-in_err-push-clause-room : goal.returns-in_err-push-clause-room
-returns-in_err-push-clause-room g c = room-then c.loop-number.invariant.room c.read_block.ensures.room (omega arith)
-
-pub returns-clause-room : goal.returns-clause-room
-returns-clause-room g c = c.loop-number.invariant.room

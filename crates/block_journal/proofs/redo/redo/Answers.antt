@@ -1,32 +1,19 @@
-use Rattle.block_journal.proofs.Calls.{exact-stays}
-use Rattle.block_journal.proofs.Made.{made-waits, made-later, became-later}
-use Rattle.block_journal.proofs.OpeningSteps.{redo_start, redo_waits, read_to_redo}
+use Rattle.block_journal.proofs.Made.{made_waits, made_later}
+use Rattle.block_journal.proofs.OpeningSteps.{redo_start, read_to_redo}
 use Rattle.block_journal.proofs.redo.redo.Goals as goal
 use Rattle.block_journal.specs.JournalLaw.{are_whole}
 
 pub returns-in_err-changes-clause-stops : goal.returns-in_err-changes-clause-stops
-returns-in_err-changes-clause-stops g c = made-waits (redo_start c.args.first c.args.count c.requires.exact) c.read_body.ensures.stops
+returns-in_err-changes-clause-stops g c = made_waits (redo_start c.args.first c.args.count c.requires.exact) c.read_body.ensures.leaves.stops
 
 pub redo_changes-requires-clause-whole : goal.redo_changes-requires-clause-whole
 redo_changes-requires-clause-whole g c = are_whole 0 c.args.count c.in_ok-changes.changes.entries c.in_ok-changes.ensures.rise
 
 pub redo_changes-requires-clause-redo : goal.redo_changes-requires-clause-redo
-redo_changes-requires-clause-redo g c = read_to_redo c.args.first c.args.count c.in_ok-changes.changes.entries (g.T.Site.image c.args.site.now) (g.T.Site.image c.read_body.new.site) c.in_ok-changes.ensures.body c.requires.opened c.read_body.ensures.image
-
-pub redo_changes-requires-clause-exact : goal.redo_changes-requires-clause-exact
-redo_changes-requires-clause-exact g c = exact-stays c.read_body.ensures.image c.requires.exact c.read_body.ensures.stops
+redo_changes-requires-clause-redo g c = read_to_redo c.args.first c.args.count c.in_ok-changes.changes.entries (g.T.Site.image c.args.site.now) (g.T.Site.image c.read_body.new.site) c.in_ok-changes.ensures.body c.requires.opened c.read_body.ensures.leaves.same
 
 pub returns-in_err-redo_changes-clause-stops : goal.returns-in_err-redo_changes-clause-stops
-returns-in_err-redo_changes-clause-stops g c = made-later (redo_start c.args.first c.args.count c.requires.exact) c.read_body.ensures.image c.read_body.ensures.stops c.redo_changes.ensures.stops
+returns-in_err-redo_changes-clause-stops g c = made_later (redo_start c.args.first c.args.count c.requires.exact) c.read_body.ensures.leaves.same c.read_body.ensures.leaves.stops c.redo_changes.ensures.stops
 
 pub returns-clause-stops : goal.returns-clause-stops
-returns-clause-stops g c = made-later (redo_start c.args.first c.args.count c.requires.exact) c.read_body.ensures.image c.read_body.ensures.stops c.redo_changes.ensures.stops
-
-pub returns-in_err-changes-clause-told : goal.returns-in_err-changes-clause-told
-returns-in_err-changes-clause-told g c = redo_waits c.args.first c.args.count c.read_body.ensures.image
-
-pub returns-in_err-redo_changes-clause-told : goal.returns-in_err-redo_changes-clause-told
-returns-in_err-redo_changes-clause-told g c = became-later c.read_body.ensures.image c.redo_changes.ensures.told
-
-pub returns-clause-told : goal.returns-clause-told
-returns-clause-told g c = became-later c.read_body.ensures.image c.redo_changes.ensures.told
+returns-clause-stops g c = made_later (redo_start c.args.first c.args.count c.requires.exact) c.read_body.ensures.leaves.same c.read_body.ensures.leaves.stops c.redo_changes.ensures.stops
