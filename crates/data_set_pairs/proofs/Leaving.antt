@@ -25,7 +25,7 @@ use Rattle.data_set_pairs.specs.declared.place.PagePlace.{PagePlace}
 use Rattle.data_set_pairs.specs.declared.table.Table.{Table}
 use Rattle.data_set_pairs.specs.Table.{HasPlace, IsBetween, IsTable, set_rank, is_page_of, pages_of, places_of}
 use Rattle.data_set_pairs.specs.Image.{are_known, is_held, is_taken, page_at, taken_pages, free_blocks, TableStands}
-use Rattle.data_set_pairs.specs.Leaving.{LeavesBehind, LeavesOut}
+use Rattle.data_set_pairs.specs.Leaving.{LeavesBehind, LeavesOut, TakesOut}
 use Rattle.data_set_pairs.proofs.Falling.{any_blocks}
 use Rattle.data_set_pairs.proofs.FreeSteps.{rises_above}
 use Rattle.data_set_pairs.proofs.Numbering.{same_any}
@@ -254,17 +254,14 @@ raises_or_not states place s lt = by (s.part == (get_or states place s).part && 
         let above : (get_or states place s).number < s.number = omega (arith, r.above, ap (λ (o : PartState). o.number) same) in
         true≢false (sym (and_from (s.part == (get_or states place s).part) (nat_lt (get_or states place s).number s.number) (eq-eqb s.part (get_or states place s).part part) (lt-ltb (get_or states place s).number s.number above)) ∙ is))
 
-abbrev Out : List PartState → Table → Table → Type 0
-Out changed now t = LeavesOut changed now.pages.items (reverse now.free.items) t.pages.items (reverse t.free.items)
-
-pub table_left : (control number : ℕ) (changed : List PartState) (R : Type 0) (o : Option Table) (now : Table) → IsTable control number now.pages.items (reverse now.free.items) → R ⊎ (R → ⊥) → (R → IsSomeAnd o (Out changed now)) → ((R → ⊥) → IfSome o (λ t. IsTable control number t.pages.items (reverse t.free.items)))
+pub table_left : (control number : ℕ) (changed : List PartState) (R : Type 0) (o : Option Table) (now : Table) → IsTable control number now.pages.items (reverse now.free.items) → R ⊎ (R → ⊥) → (R → IsSomeAnd o (TakesOut changed now)) → ((R → ⊥) → IfSome o (λ t. IsTable control number t.pages.items (reverse t.free.items)))
     → IsTable control number (last_pages o now) (reverse (last_free o now))
 table_left control number changed R None now is raises out anew = is
 table_left control number changed R (Some t) now is raises out anew = ⊎_elim (λ r. table_out control number changed now.pages.items t.pages.items (reverse now.free.items) (reverse t.free.items) is (out r)) anew raises
 
 pub stands_left : (indexes control number : ℕ) (states changed : List PartState) (place : ℕ) (s : PartState) (o : Option Table) (now : Table) (told : Option (List (List ℕ))) → changed ≡ slice_set states place s
     → IsTable control number now.pages.items (reverse now.free.items) → ((list : List (List ℕ)) → told ≡ Some list → IsLaidOut indexes control number states now.pages.items (reverse now.free.items) list)
-    → IfSome told (λ list. are_known indexes (slice_set states place s) (drop control list) ≡ true) → IfNone o (KeepsNumber states place s) → RaisesNumber states place s ⊎ (RaisesNumber states place s → ⊥) → (RaisesNumber states place s → IsSomeAnd o (Out changed now))
+    → IfSome told (λ list. are_known indexes (slice_set states place s) (drop control list) ≡ true) → IfNone o (KeepsNumber states place s) → RaisesNumber states place s ⊎ (RaisesNumber states place s → ⊥) → (RaisesNumber states place s → IsSomeAnd o (TakesOut changed now))
     → ((RaisesNumber states place s → ⊥) → IfSome o (λ t. IfSome told (TableStands indexes changed control t.pages.items (reverse t.free.items)))) → IfSome told (TableStands indexes changed control (last_pages o now) (reverse (last_free o now)))
 stands_left indexes control number states changed place s o now None set is laid known keeps raises out anew = tt
 stands_left indexes control number states changed place s None now (Some list) set is laid known keeps raises out anew =
@@ -288,7 +285,7 @@ or_other : (a b : Bool) → (a || b) ≡ true → a ≡ false → b ≡ true
 or_other true b is wrong = absurd (true≢false wrong)
 or_other false b is wrong = is
 
-pub leaves_behind : (indexes control number : ℕ) (states changed : List PartState) (now new : Table) (a b : StoreView) (k : ℕ) (x : List ℕ) → IsTable control number now.pages.items (reverse now.free.items) → Out changed now new → k < control → b.list ≡ option_map (λ list. slice_set list k x) a.list → LeavesBehind changed (view indexes states now a) (view indexes changed new b)
+pub leaves_behind : (indexes control number : ℕ) (states changed : List PartState) (now new : Table) (a b : StoreView) (k : ℕ) (x : List ℕ) → IsTable control number now.pages.items (reverse now.free.items) → TakesOut changed now new → k < control → b.list ≡ option_map (λ list. slice_set list k x) a.list → LeavesBehind changed (view indexes states now a) (view indexes changed new b)
 leaves_behind indexes control number states changed now new a b k x table out low staged = record {
   places = λ set. places_left changed set now.pages.items new.pages.items out.kept;
   pages = λ set stays.
@@ -299,9 +296,12 @@ leaves_behind indexes control number states changed now new a b k x table out lo
       (any_weaker (λ p. is_page_of set p && p.block == block) (λ p. is_left changed p.set && p.block == block) now.pages.items (λ p is. let parts = and_parts (is_page_of set p) (p.block == block) is in and_from (is_left changed p.set) (p.block == block) (ap (is_left changed) (set_is p.set set parts.0) ∙ left) parts.1) (sym (any_blocks (λ n. n == block) (is_page_of set) now.pages.items) ∙ any));
   only = λ block any none.
       let found = Any-from_list_any (λ (p : PagePlace). is_left changed p.set && p.block == block) now.pages.items (or_other (list_any (λ n. n == block) (reverse now.free.items)) (list_any (λ p. is_left changed p.set && p.block == block) now.pages.items) (sym (out.same (λ n. n == block)) ∙ any) none) in
-      let parts = and_parts (is_left changed found.1.set) (found.1.block == block) found.4 in
-      (found.1.set, parts.0, any_blocks (λ n. n == block) (is_page_of found.1.set) now.pages.items
-          ∙ list_any_at (λ p. is_page_of found.1.set p && p.block == block) now.pages.items found.0 found.1 found.2 (ap (λ (p : PagePlace). is_page_of found.1.set p && p.block == block) found.3 ∙ and_from (is_page_of found.1.set found.1) (found.1.block == block) (own_set found.1.set) parts.1));
+      let parts = and_parts (is_left changed found.1.set) (found.1.block == block) found.4 in (
+        found.1.set,
+        parts.0,
+        any_blocks (λ n. n == block) (is_page_of found.1.set) now.pages.items
+            ∙ list_any_at (λ p. is_page_of found.1.set p && p.block == block) now.pages.items found.0 found.1 found.2 (ap (λ (p : PagePlace). is_page_of found.1.set p && p.block == block) found.3 ∙ and_from (is_page_of found.1.set found.1) (found.1.block == block) (own_set found.1.set) parts.1),
+      );
 }
   where
     off : (t : Bool) → not t ≡ true → t ≡ false

@@ -98,9 +98,9 @@ switches indexes states place s t = record {
         and_from (s.part == set.part) (has_set s set) part
         (switch_if (set.letter == 76) (set.number == 0) (set.number == t.old.number && is_of_side t.old.side set.letter) (set.number == t.old.number + 1) (is_of_side (other_side t.old.side) set.letter) (set.number == s.number) (is_of_side s.side set.letter) (not (s.state == 73) && set.number == s.number + 1 && is_of_side (other_side s.side) set.letter)
         (λ old letter.
-            let number = eqb-true set.number t.old.number (and_parts (set.number == t.old.number) (is_of_side t.old.side set.letter) old).0 in
-            let behind : leaves_behind set s ≡ true = and_from (s.part == set.part) (nat_lt set.number s.number) part (lt-ltb set.number s.number (omega (arith, number, t.number))) in
-            true≢false (sym (and_from (not (set.letter == 76)) (list_any (leaves_behind set) (slice_set states place s)) (ap not letter) (has states place t.old (leaves_behind set) t.is behind)) ∙ kept))
+        let number = eqb-true set.number t.old.number (and_parts (set.number == t.old.number) (is_of_side t.old.side set.letter) old).0 in
+        let behind : leaves_behind set s ≡ true = and_from (s.part == set.part) (nat_lt set.number s.number) part (lt-ltb set.number s.number (omega (arith, number, t.number))) in
+        true≢false (sym (and_from (not (set.letter == 76)) (list_any (leaves_behind set) (slice_set states place s)) (ap not letter) (has states place t.old (leaves_behind set) t.is behind)) ∙ kept))
         (λ next. eq-eqb set.number s.number (eqb-true set.number (t.old.number + 1) next ∙ sym t.number))
         (λ side. ap (λ (k : ℕ). is_of_side k set.letter) t.side ∙ side)
         (t.old.state == 73) both.1)

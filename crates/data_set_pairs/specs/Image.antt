@@ -1,5 +1,5 @@
 -- What a table of pages says of the data blocks that it was made from.
-use Rattle.std.specs.Prelude.{◌≡◌, ◌⊎◌, ℕ, ◌+◌, ◌^◌, ◌<◌, ◌==◌, Bool, false, ◌&&◌, ◌||◌, not, if◌then◌else◌, IsTrue, List, [], ◌∷◌, length, drop, reverse, map, filter, All, Option, Some}
+use Rattle.std.specs.Prelude.{◌≡◌, ◌⊎◌, ℕ, ◌+◌, ◌^◌, ◌<◌, ◌==◌, Bool, false, ◌&&◌, ◌||◌, not, if◌then◌else◌, IsTrue, List, [], ◌∷◌, length, drop, reverse, map, filter, All, Option, Some, IfSome}
 use Rattle.std.specs.List.{list_all, list_any}
 use Rattle.hal_base.specs.declared.pages.SetId.{SetId}
 use Rattle.hal_base.specs.declared.place.PartState.{PartState}
@@ -33,6 +33,10 @@ free_blocks states n (block ∷ blocks) = if is_free states block then n ∷ fre
 abbrev pub are_known : ℕ → List PartState → List (List ℕ) → Bool
 are_known indexes states blocks = list_all (λ block. is_free states block || is_live indexes states block) blocks
 
+-- where the blocks are told, each of the data blocks, which stand behind the control blocks, is free or live
+abbrev pub DataKnown : ℕ → ℕ → List PartState → Option (List (List ℕ)) → Type 0
+DataKnown indexes control states told = IfSome told (λ list. IsTrue (are_known indexes states (drop control list)))
+
 -- the heads of those that aren't free say no more than a head may
 abbrev pub are_quiet : List PartState → List (List ℕ) → Bool
 are_quiet states blocks = list_all (λ block. is_free states block || says_no_more block) blocks
@@ -43,6 +47,10 @@ HasUnknown indexes states blocks = are_known indexes states blocks ≡ false
 -- the live blocks of each data set have the page numbers from 0 to their count less 1, each once
 abbrev pub AreNumbered : ℕ → List PartState → List (List ℕ) → Type 0
 AreNumbered indexes states blocks = (set : SetId) (n : ℕ) → n < length (set_blocks indexes states set blocks) → IsTrue (list_any (λ page. page == n) (map page_in (set_blocks indexes states set blocks)))
+
+-- and so where the blocks are told
+abbrev pub DataNumbered : ℕ → ℕ → List PartState → Option (List (List ℕ)) → Type 0
+DataNumbered indexes control states told = IfSome told (λ list. AreNumbered indexes states (drop control list))
 
 -- the data blocks break rule 1 in its part on their heads, or with these in order rule 2
 abbrev pub BreaksRule : ℕ → List PartState → List (List ℕ) → ℕ → Type 0

@@ -1,5 +1,5 @@
 -- A table of pages without the data sets that states leave behind, whose blocks are free.
-use Rattle.std.specs.Prelude.{◌≡◌, ℕ, ◌+◌, ◌≤◌, ◌==◌, Bool, false, ◌&&◌, ◌||◌, not, if◌then◌else◌, IsTrue, List, [], length, filter}
+use Rattle.std.specs.Prelude.{◌≡◌, ℕ, ◌+◌, ◌≤◌, ◌==◌, Bool, false, ◌&&◌, ◌||◌, not, if◌then◌else◌, IsTrue, List, [], length, reverse, filter}
 use Rattle.std.specs.List.{list_any}
 use Rattle.std.specs.List.Sorted.{IsStrictlyIncreasing}
 use Rattle.hal_base.specs.ShelfCalls.{ShelfView}
@@ -7,6 +7,7 @@ use Rattle.hal_base.specs.declared.pages.SetId.{SetId}
 use Rattle.hal_base.specs.declared.place.PartState.{PartState}
 use Rattle.volume_image.specs.Header.{is_left}
 use Rattle.data_set_pairs.specs.declared.place.PagePlace.{PagePlace}
+use Rattle.data_set_pairs.specs.declared.table.Table.{Table}
 
 -- the pages that stay are those of the other data sets, and the free blocks, each once, are those that were free and those
 -- of the pages that go
@@ -15,6 +16,10 @@ pub record LeavesOut (states : List PartState) (pages : List PagePlace) (free : 
   pub rise : IsStrictlyIncreasing left
   pub same : (test : ℕ → Bool) → list_any test left ≡ (list_any test free || list_any (λ p. is_left states p.set && test p.block) pages)
   pub few : length more + length left ≤ length pages + length free
+
+-- the same of two tables
+abbrev pub TakesOut : List PartState → Table → Table → Type 0
+TakesOut states old new = LeavesOut states old.pages.items (reverse old.free.items) new.pages.items (reverse new.free.items)
 
 -- what is seen of a shelf whose states leave data sets behind: these have no pages, all others have those that they had, and
 -- a block is free that was free or stood in a page of one of these

@@ -7,7 +7,7 @@ ghost use Rattle.volume_image.specs.Header.{is_free, page_in, says_no_more, set_
 ghost use Rattle.volume_image.specs.Pages.{set_blocks};
 ghost use Rattle.data_set_pairs.specs.Shelf.{blocks_at};
 ghost use Rattle.data_set_pairs.specs.Table.{places_of};
-ghost use Rattle.data_set_pairs.specs.Image.{are_known, AreNumbered, IsPage};
+ghost use Rattle.data_set_pairs.specs.Image.{are_known, AreNumbered, DataKnown, DataNumbered, IsPage};
 ghost use Rattle.data_set_pairs.specs.Row.{GoesOn, Switches};
 
 use crate::Volume;
@@ -31,17 +31,17 @@ impl<B: Blocks> Volume<B> {
     /// Where a reorganization begins, goes on, pauses or is resumed, the condition of `set_state` holds of the new state if
     /// each data block is free or live now.
     pub fn may_go_on(&self, place: u16, state: &PartState)
-        requires known { IfSome (B.seen self.now.blocks).list (λ list. IsTrue (are_known self.now.indexes self.now.states.items (drop self.now.control list))) }
+        requires known { DataKnown self.now.indexes self.now.control self.now.states.items (B.seen self.now.blocks).list }
         requires goes_on { GoesOn self.now.states.items place state.now }
-        ensures known { IfSome (B.seen self.now.blocks).list (λ list. IsTrue (are_known self.now.indexes (slice_set self.now.states.items place state.now) (drop self.now.control list))) }
-        ensures numbered { IfSome (B.seen self.now.blocks).list (λ list. AreNumbered self.now.indexes (slice_set self.now.states.items place state.now) (drop self.now.control list)) }
+        ensures known { DataKnown self.now.indexes self.now.control (slice_set self.now.states.items place state.now) (B.seen self.now.blocks).list }
+        ensures numbered { DataNumbered self.now.indexes self.now.control (slice_set self.now.states.items place state.now) (B.seen self.now.blocks).list }
     {}
 
     /// And so where a reorganization ends: what the old side holds is free, and the other side holds what it held.
     pub fn may_switch(&self, place: u16, state: &PartState)
-        requires known { IfSome (B.seen self.now.blocks).list (λ list. IsTrue (are_known self.now.indexes self.now.states.items (drop self.now.control list))) }
+        requires known { DataKnown self.now.indexes self.now.control self.now.states.items (B.seen self.now.blocks).list }
         requires switches { Switches self.now.states.items place state.now }
-        ensures known { IfSome (B.seen self.now.blocks).list (λ list. IsTrue (are_known self.now.indexes (slice_set self.now.states.items place state.now) (drop self.now.control list))) }
-        ensures numbered { IfSome (B.seen self.now.blocks).list (λ list. AreNumbered self.now.indexes (slice_set self.now.states.items place state.now) (drop self.now.control list)) }
+        ensures known { DataKnown self.now.indexes self.now.control (slice_set self.now.states.items place state.now) (B.seen self.now.blocks).list }
+        ensures numbered { DataNumbered self.now.indexes self.now.control (slice_set self.now.states.items place state.now) (B.seen self.now.blocks).list }
     {}
 }

@@ -3,7 +3,7 @@ ghost use Rattle.std.specs.Prelude.{◌≡◌, ◌≤◌, ◌++◌, ℕ, Bool, n
 ghost use Rattle.std.specs.List.{list_any};
 ghost use Rattle.std.specs.List.Sorted.{IsStrictlyIncreasing};
 ghost use Rattle.volume_image.specs.Header.{is_left};
-ghost use Rattle.data_set_pairs.specs.Leaving.{LeavesOut};
+ghost use Rattle.data_set_pairs.specs.Leaving.{TakesOut};
 
 use crate::place::PagePlace;
 use crate::table::Table;
@@ -57,7 +57,7 @@ pub(crate) fn without_left(
     table: &Table,
     states: &[PartState],
 ) -> Result<Table, Memory>
-    ensures { IfOk result (λ less. LeavesOut states.now table.now.pages.items (reverse table.now.free.items) less.pages.items (reverse less.free.items)) }
+    ensures { IfOk result (λ less. TakesOut states.now table.now less) }
 {
     let pages = kept_pages(alloc, &table.pages, states)?;
     let mut free = Vec::from_slice(alloc, &table.free)?;

@@ -4,7 +4,7 @@ ghost use Rattle.std.specs.Option.{option_map};
 ghost use Rattle.hal_base.specs.Fault.{HasCauseFor};
 ghost use Rattle.volume_image.specs.Control.{control_row, cursor_bytes};
 ghost use Rattle.data_set_pairs.specs.Stays.{Stays};
-ghost use Rattle.data_set_pairs.specs.Image.{are_known, AreNumbered};
+ghost use Rattle.data_set_pairs.specs.Image.{DataKnown, DataNumbered};
 ghost use Rattle.data_set_pairs.specs.Kept.{held, last_held};
 ghost use Rattle.data_set_pairs.specs.Row.{with_row, KeepsNumber, RaisesNumber};
 ghost use Rattle.data_set_pairs.specs.Leaving.{LeavesBehind};
@@ -26,8 +26,8 @@ impl<B: Blocks> Volume<B> {
         requires live { IsTrue (B.seen self.old.blocks).live }
         requires place { place < length self.old.states.items }
         requires short { length (cursor_bytes state.now.cursor) ≤ 120 }
-        requires known { IfSome (B.seen self.old.blocks).list (λ list. IsTrue (are_known self.old.indexes (slice_set self.old.states.items place state.now) (drop self.old.control list))) }
-        requires numbered { IfSome (B.seen self.old.blocks).list (λ list. AreNumbered self.old.indexes (slice_set self.old.states.items place state.now) (drop self.old.control list)) }
+        requires known { DataKnown self.old.indexes self.old.control (slice_set self.old.states.items place state.now) (B.seen self.old.blocks).list }
+        requires numbered { DataNumbered self.old.indexes self.old.control (slice_set self.old.states.items place state.now) (B.seen self.old.blocks).list }
         ensures row { OnOk result ((B.seen self.new.blocks).list ≡ option_map (λ list. slice_set list (place / 32) (with_row (place % 32) (control_row state.now) (slice_index_or list (place / 32) []))) (B.seen self.old.blocks).list) }
         ensures states { OnOk result (self.new.states.items ≡ slice_set self.old.states.items place state.now) }
         ensures of { (self.new.control ≡ self.old.control) × (self.new.indexes ≡ self.old.indexes) }

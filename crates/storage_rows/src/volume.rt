@@ -238,27 +238,18 @@ fn a_paused_state_reads_back(rt: HostRuntime) -> Result<(), Fail> {
     Ok(())
 }
 
-const ROOTS: SetId = SetId {
-    part: 1,
-    number: 1,
-    letter: b'X',
-};
-
 #[test]
 fn a_switch_frees_the_old_side(rt: HostRuntime) -> Result<(), Fail> {
     let alloc = rt.alloc();
     let schema = first_schema(alloc)?;
-    let site = MemSite::new(alloc, image_of(alloc, PAUSED, b"", b"")?, List::new(alloc));
+    let image = image_of(alloc, PAUSED, IDLE_PAGE, b"\x01M\0\x01\0\x02\0\0")?;
+    let site = MemSite::new(alloc, image, List::new(alloc));
     let Ok(journal) = Journal::open(alloc, Untold(site), FIRST as u64, 41) else {
         return Err("not opened".into());
     };
     let Ok(mut volume) = Volume::read(alloc, journal, &schema) else {
         return Err("not read".into());
     };
-    for (set, kind) in [(CELLS, 1), (OUTPUT, 1), (ROOTS, 2)] {
-        assert!(rt; volume.is_live() && volume.takes(set, kind));
-        assert_eq!(rt; volume.grow(set, kind), Ok(0));
-    }
     let idle = PartState {
         part: 1,
         number: 2,
@@ -266,18 +257,19 @@ fn a_switch_frees_the_old_side(rt: HostRuntime) -> Result<(), Fail> {
         state: b'I',
         cursor: Cursor::Front,
     };
+    assert_eq!(rt; volume.free_count(), 38);
+    assert_eq!(rt; volume.block_of(CELLS, 0), Some(1));
     assert!(rt; volume.is_live());
     assert_eq!(rt; volume.set_state(0, &idle), Ok(()));
     assert_eq!(rt; volume.free_count(), 39);
     assert_eq!(rt; volume.block_of(CELLS, 0), None);
-    assert_eq!(rt; volume.block_of(ROOTS, 0), None);
     assert_eq!(rt; volume.block_of(OUTPUT, 0), Some(2));
     assert!(rt; volume.is_live() && volume.takes(OUTPUT, 1));
     assert_eq!(rt; volume.grow(OUTPUT, 1), Ok(1));
     assert_eq!(rt; volume.block_of(OUTPUT, 1), Some(1));
     assert!(rt; volume.is_live());
     volume.forget();
-    assert_eq!(rt; volume.free_count(), 40);
-    assert_eq!(rt; volume.block_of(OUTPUT, 0), None);
+    assert_eq!(rt; volume.free_count(), 38);
+    assert_eq!(rt; volume.block_of(CELLS, 0), Some(1));
     Ok(())
 }

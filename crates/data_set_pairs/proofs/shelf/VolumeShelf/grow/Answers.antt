@@ -105,8 +105,12 @@ returns-clause-keeps g c =
     let last_f : last_free c.make_room.new.kept c.add.new.self ≡ (last_free v.kept_table v.table) = free_kept c.make_room.new.kept c.add.new.self c.make_room.new.table there ∙ c.make_room.ensures.last_free in
     let from = (least_within v.control (g.B.Blocks.seen v.blocks).number v.table.pages.items (reverse v.table.free.items) (reverse (take (length v.table.free.items - 1) v.table.free.items)) c.in-Some.block v.in_table c.in-Some.ensures.some).from in
     record {
-      is_steady = (record { is_steady = c.stage.ensures.leaves.1; same = c.stage.ensures.leaves.0; faults = c.stage.ensures.faults.later }, standing_same v.indexes v.control v.states.items (last_states v.kept_states v.states) (last_pages v.kept_table v.table) (last_pages c.make_room.new.kept c.add.new.self) (last_free v.kept_table v.table) (last_free c.make_room.new.kept c.add.new.self) last_p last_f, control_staged v.control c.in-Some.block (g.B.Blocks.seen v.blocks).list (g.B.Blocks.seen c.stage.new.self).list c.empty_page.result from (is_done c.stage.result c.in_default-stage.not-Err c.stage.ensures.list),
-          free_taken v.control c.in-Some.block (reverse v.table.free.items) (reverse c.add.new.self.free.items) (g.B.Blocks.seen v.blocks).list (g.B.Blocks.seen c.stage.new.self).list c.empty_page.result rest v.in_table.rise (is_done c.stage.result c.in_default-stage.not-Err c.stage.ensures.list));
+      is_steady = (
+        record { is_steady = c.stage.ensures.leaves.1; same = c.stage.ensures.leaves.0; faults = c.stage.ensures.faults.later },
+        standing_same v.indexes v.control v.states.items (last_states v.kept_states v.states) (last_pages v.kept_table v.table) (last_pages c.make_room.new.kept c.add.new.self) (last_free v.kept_table v.table) (last_free c.make_room.new.kept c.add.new.self) last_p last_f,
+        control_staged v.control c.in-Some.block (g.B.Blocks.seen v.blocks).list (g.B.Blocks.seen c.stage.new.self).list c.empty_page.result from (is_done c.stage.result c.in_default-stage.not-Err c.stage.ensures.list),
+        free_taken v.control c.in-Some.block (reverse v.table.free.items) (reverse c.add.new.self.free.items) (g.B.Blocks.seen v.blocks).list (g.B.Blocks.seen c.stage.new.self).list c.empty_page.result rest v.in_table.rise (is_done c.stage.result c.in_default-stage.not-Err c.stage.ensures.list),
+      );
       takes = λ set kind. refl;
       faults = fails_done c.stage.result Failed c.count_of-page.result page.Failed c.in_default-stage.not-Err c.stage.ensures.faults;
       fetches = c.stage.ensures.leaves.0.fetches;

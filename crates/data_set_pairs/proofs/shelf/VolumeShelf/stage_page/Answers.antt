@@ -52,8 +52,12 @@ returns-clause-leaves g c =
     let from = (place_number v.control (g.B.Blocks.seen v.blocks).number v.table.pages.items (reverse v.table.free.items) c.args.set c.args.n c.block_at-block.result v.in_table (subst (λ (l : List PagePlace). slice_get (places_of c.args.set l) c.args.n ≡ Some c.block_at-block.result) c.deref.ensures.value c.block_at-block.ensures)).from in
     record {
       keeps = record {
-        is_steady = (record { is_steady = c.stage.ensures.leaves.1; same = c.stage.ensures.leaves.0; faults = c.stage.ensures.faults.later }, refl, ⊎_elim (λ done. control_staged v.control c.block_at-block.result (g.B.Blocks.seen v.blocks).list (g.B.Blocks.seen c.stage.new.self).list c.args.from.now from done) (λ kept. ap (option_map (take v.control)) kept) (done_or_not c.stage.result c.stage.ensures.list (on_err_weaker c.stage.result (λ kept. kept.0) c.stage.ensures.unchanged)),
-            ⊎_elim (λ done. free_staged (reverse v.table.free.items) (g.B.Blocks.seen v.blocks).list (g.B.Blocks.seen c.stage.new.self).list c.block_at-block.result c.args.from.now done (not_free v.indexes v.control (g.B.Blocks.seen v.blocks).number v.states.items v.table.pages.items (reverse v.table.free.items) (g.B.Blocks.seen v.blocks).list c.args.set c.args.n c.block_at-block.result c.args.from.now context)) (λ kept. free_stays (reverse v.table.free.items) (reverse v.table.free.items) (g.B.Blocks.seen v.blocks).list (g.B.Blocks.seen c.stage.new.self).list refl kept) (done_or_not c.stage.result c.stage.ensures.list (on_err_weaker c.stage.result (λ kept. kept.0) c.stage.ensures.unchanged)));
+        is_steady = (
+          record { is_steady = c.stage.ensures.leaves.1; same = c.stage.ensures.leaves.0; faults = c.stage.ensures.faults.later },
+          refl,
+          ⊎_elim (λ done. control_staged v.control c.block_at-block.result (g.B.Blocks.seen v.blocks).list (g.B.Blocks.seen c.stage.new.self).list c.args.from.now from done) (λ kept. ap (option_map (take v.control)) kept) (done_or_not c.stage.result c.stage.ensures.list (on_err_weaker c.stage.result (λ kept. kept.0) c.stage.ensures.unchanged)),
+          ⊎_elim (λ done. free_staged (reverse v.table.free.items) (g.B.Blocks.seen v.blocks).list (g.B.Blocks.seen c.stage.new.self).list c.block_at-block.result c.args.from.now done (not_free v.indexes v.control (g.B.Blocks.seen v.blocks).number v.states.items v.table.pages.items (reverse v.table.free.items) (g.B.Blocks.seen v.blocks).list c.args.set c.args.n c.block_at-block.result c.args.from.now context)) (λ kept. free_stays (reverse v.table.free.items) (reverse v.table.free.items) (g.B.Blocks.seen v.blocks).list (g.B.Blocks.seen c.stage.new.self).list refl kept) (done_or_not c.stage.result c.stage.ensures.list (on_err_weaker c.stage.result (λ kept. kept.0) c.stage.ensures.unchanged)),
+        );
         takes = λ set kind. refl;
         faults = c.stage.ensures.faults;
         fetches = c.stage.ensures.leaves.0.fetches;

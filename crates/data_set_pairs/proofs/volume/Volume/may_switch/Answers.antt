@@ -12,4 +12,4 @@ pub returns-clause-numbered : goal.returns-clause-numbered
 returns-clause-numbered g c =
     let v = c.args.self.now in
     told_then (g.B.Blocks.seen v.blocks).list c.requires.known (λ list is known. numbered_step v.indexes v.states.items (slice_set v.states.items c.args.place c.args.state.now) (drop v.control list) (switches v.indexes v.states.items c.args.place c.args.state.now c.requires.switches) known
-        (numbered_known v.indexes v.control (g.B.Blocks.seen v.blocks).number v.states.items v.table.pages.items (reverse v.table.free.items) list v.in_table (v.laid list is) known))
+    (numbered_known v.indexes v.control (g.B.Blocks.seen v.blocks).number v.states.items v.table.pages.items (reverse v.table.free.items) list v.in_table (v.laid list is) known))
