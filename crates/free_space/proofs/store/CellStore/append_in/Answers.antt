@@ -3,7 +3,6 @@ use Rattle.std.proofs.lemmas.Result.{IfOk-weaker, on_err_weaker}
 use Rattle.hal_base.proofs.ShelfLemmas.{same_then, reads_changes, changes_then}
 use Rattle.free_space.specs.Placing.{TakesHole, AppendsIn}
 use Rattle.free_space.specs.Store.{Relays}
-use Rattle.free_space.proofs.Told.{stands_same, stays_same}
 use Rattle.free_space.proofs.PageSteps.{page_again}
 use Rattle.free_space.proofs.AppendSteps.{appends_in}
 use Rattle.free_space.proofs.store.CellStore.append_in.Goals as goal

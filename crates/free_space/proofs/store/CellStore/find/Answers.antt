@@ -1,7 +1,6 @@
 use Rattle.std.proofs.Common.{◌/◌, ◌^◌, sym, ◌∙◌, arith}
 use Rattle.std.proofs.lemmas.Bool.{eqb-false, eqb-true}
 use Rattle.free_space.specs.Address.{letter_index}
-use Rattle.free_space.proofs.Told.{stands_same}
 use Rattle.free_space.proofs.PageSteps.{not_in_set, past_pages, found_at, none_among, one_among}
 use Rattle.free_space.proofs.store.CellStore.find.Goals as goal
 

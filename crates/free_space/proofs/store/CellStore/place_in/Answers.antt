@@ -4,7 +4,6 @@ use Rattle.hal_base.proofs.ShelfLemmas.{same_then, reads_changes, changes_then}
 use Rattle.segment_blocks.specs.Tiling.{cell_length}
 use Rattle.free_space.specs.Placing.{TakesHole, PlacesIn}
 use Rattle.free_space.specs.Store.{Relays}
-use Rattle.free_space.proofs.Told.{stands_same, stays_same}
 use Rattle.free_space.proofs.PageSteps.{page_again}
 use Rattle.free_space.proofs.PlaceSteps.{places_in}
 use Rattle.free_space.proofs.store.CellStore.place_in.Goals as goal
