@@ -4,7 +4,7 @@ use Rattle.hal_base.proofs.ShelfLemmas.{same_then, reads_changes, changes_then}
 use Rattle.free_space.specs.Placing.{TakesHole, AppendsIn}
 use Rattle.free_space.specs.Store.{Relays}
 use Rattle.free_space.proofs.PageSteps.{page_again}
-use Rattle.free_space.proofs.AppendSteps.{appends_in}
+use Rattle.free_space.proofs.PlaceSteps.{appends_in}
 use Rattle.free_space.proofs.store.CellStore.append_in.Goals as goal
 
 pub fill_page-requires-clause-read : goal.fill_page-requires-clause-read
