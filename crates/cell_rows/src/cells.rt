@@ -60,6 +60,18 @@ fn read(alloc: Global, shelf: &mut QuietShelf, shape: Shape, at: u32) -> Result<
     store.cell(shelf, at)
 }
 
+fn find(
+    alloc: Global,
+    shelf: &mut QuietShelf,
+    shape: Shape,
+    at: u32,
+) -> Result<Option<Cell>, PageFault> {
+    let Ok(store) = CellStore::open(alloc, shelf, SET, &[shape]) else {
+        return Err(PageFault::Memory);
+    };
+    store.find(shelf, at)
+}
+
 fn give_back(
     alloc: Global,
     shelf: &mut QuietShelf,
@@ -213,6 +225,39 @@ fn one_cell_is_changed(rt: HostRuntime) -> Result<(), Fail> {
     let other = read(rt.alloc(), &mut shelf, ROOT, 80).ok().ok_or("read")?;
     assert_eq!(rt; (other.copied, other.twin), (false, 0));
     assert_eq!(rt; other.content.as_slice(), [2, 2, 2, 2, 2].as_slice());
+    Ok(())
+}
+
+/// The addresses, of some, at which a cell is found.
+fn found_at(alloc: Global, shelf: &mut QuietShelf, asked: &[u32]) -> Result<Vec<u32>, PageFault> {
+    let mut found = Vec::new(alloc);
+    for at in asked {
+        if find(alloc, shelf, ROOT, *at)?.is_some() && found.push(*at).is_err() {
+            return Err(PageFault::Memory);
+        }
+    }
+    Ok(found)
+}
+
+#[test]
+fn any_number_may_be_asked_for_a_cell(rt: HostRuntime) -> Result<(), Fail> {
+    let mut shelf = QuietShelf::new(rt.alloc(), 1);
+    assert_eq!(rt; placed_among_roots(rt.alloc(), &mut shelf, &[48]), Ok(112));
+    let asked = [
+        0,
+        16,
+        20,
+        48,
+        80,
+        112,
+        144,
+        4095,
+        4112,
+        0x1000_0010,
+        u32::MAX,
+    ];
+    let found = found_at(rt.alloc(), &mut shelf, &asked).ok().ok_or("find")?;
+    assert_eq!(rt; found.as_slice(), [16, 80, 112].as_slice());
     Ok(())
 }
 

@@ -5,7 +5,10 @@ ghost use Rattle.std.specs.Prelude.{◌≡◌, ◌-◌, ◌<◌, List as ListOf,
 ghost use Rattle.hal_base.specs.declared.place.Shape.{Shape as ShapeOf};
 ghost use Rattle.free_space.specs.Store.{IsTyped};
 
+mod kept;
+
 use hal_base::{Bytes, Ilk, List, Memory, Shape};
+pub use kept::OpenCells;
 use segment_blocks::Cell;
 use std::alloc::Global;
 

@@ -4,10 +4,7 @@ pub mod Filling
 pub mod Clearings
 pub mod Openings
 pub mod Rewriting
-pub mod CellsOf
 pub mod Told
 pub mod MapSteps
 pub mod PageSteps
 pub mod PlaceSteps
-pub mod AppendSteps
-pub mod GrownSteps

@@ -1,46 +1,24 @@
 -- Lists of tiles, seen before and behind a place.
-use Rattle.std.proofs.Common.{◌≡◌, ℕ, zero, suc, ◌+◌, ◌-◌, ◌*◌, ◌%◌, ◌^◌, ◌<◌, ◌≤◌, Bool, true, false, List, [], ◌∷◌, ◌++◌, length, get_or, take, drop, replicate, Some, refl, sym, ap, subst, ◌∙◌, append_assoc, arith}
-use Rattle.std.specs.List.{flat_map}
-use Rattle.std.specs.Int.{w16, w32, to_be_bytes}
+use Rattle.std.proofs.Common.{◌≡◌, ℕ, zero, suc, ◌+◌, ◌-◌, ◌%◌, ◌^◌, ◌<◌, ◌≤◌, Bool, true, false, List, [], ◌∷◌, ◌++◌, length, get_or, take, drop, Some, refl, sym, ap, subst, ◌∙◌, arith}
 use Rattle.std.specs.Prelude.{slice_get}
-use Rattle.std.proofs.lemmas.List.{length-append, length-replicate, length-drop, take-append-drop, drop_more, take_all}
+use Rattle.std.proofs.lemmas.List.{length-append, length-drop, take-append-drop, drop_more, take_all}
 use Rattle.std.proofs.lemmas.Option.{slice_get_within, get_or_from_slice_get}
 use Rattle.hal_base.specs.declared.place.Shape.{Shape}
 use Rattle.segment_blocks.specs.declared.tile.Cell.{Cell}
 use Rattle.segment_blocks.specs.declared.tile.Tile.{Tile}
 use Rattle.segment_blocks.specs.declared.tile.Tile.TheVariants.{Hole, Seg}
-use Rattle.segment_blocks.specs.Tiling.{used_of, cell_length, shape_of, spelled_head, spelled_hole, spelled_cell, spelling, spelled, IsCell, IsHole, AreTilesFrom, IsTiling, is_hole}
+use Rattle.segment_blocks.specs.Tiling.{cell_length, shape_of, spelled_hole, spelled_cell, spelling, spelled, IsCell, IsHole, AreTilesFrom, IsTiling, is_hole}
+use Rattle.segment_blocks.proofs.Holes.{length-spelled_hole}
+use Rattle.segment_blocks.proofs.Cells.{length-spelled_cell}
+use Rattle.segment_blocks.proofs.Tilings.{spelled-append}
 use Rattle.free_space.specs.Gaps.{left_over, tile_offset}
 use Rattle.free_space.specs.Clearing.{ends_in_hole}
 
 pub length-hole : (len : ℕ) → 4 ≤ len → length (spelled_hole len) ≡ len
-unfolding spelled_hole
-length-hole len least =
-    let zeros : List ℕ = replicate (len - 4) 0 in
-    let head : List ℕ = 0 ∷ 0 ∷ to_be_bytes w16 len in
-    let four : length head ≡ 4 = refl in
-    let many : length zeros ≡ len - 4 = length-replicate (len - 4) 0 in
-    let whole : length (head ++ zeros) ≡ length head + length zeros = length-append head zeros in
-    whole ∙ ap (λ (n : ℕ). 4 + n) many ∙ omega arith
-
-length-addresses : (xs : List ℕ) → length (flat_map (to_be_bytes w32) xs) ≡ 4 * length xs
-length-addresses [] = refl
-length-addresses (x ∷ xs) = omega (arith, length-addresses xs)
+length-hole = length-spelled_hole
 
 pub length-cell : (cell : Cell) → length (spelled_cell cell) ≡ cell_length (shape_of cell)
-unfolding spelled_cell
-length-cell cell =
-    let head : List ℕ = spelled_head cell (cell_length (shape_of cell)) in
-    let children : List ℕ = flat_map (to_be_bytes w32) cell.children in
-    let zeros : List ℕ = replicate (cell_length (shape_of cell) - used_of (shape_of cell)) 0 in
-    let sixteen : length head ≡ 16 = refl in
-    let addresses : length children ≡ 4 * length cell.children = length-addresses cell.children in
-    let padding : length zeros ≡ cell_length (shape_of cell) - used_of (shape_of cell) = length-replicate (cell_length (shape_of cell) - used_of (shape_of cell)) 0 in
-    omega (arith, length-append head children, length-append (head ++ children) cell.content, length-append ((head ++ children) ++ cell.content) zeros)
-
-pub spelled-append : (xs ys : List Tile) → spelled (xs ++ ys) ≡ spelled xs ++ spelled ys
-spelled-append [] ys = refl
-spelled-append (x ∷ xs) ys = ap (λ (z : List ℕ). spelling x ++ z) (spelled-append xs ys) ∙ sym (append_assoc (spelling x) (spelled xs) (spelled ys))
+length-cell = length-spelled_cell
 
 pub length-spelled : (xs ys : List Tile) → length (spelled (xs ++ ys)) ≡ length (spelled xs) + length (spelled ys)
 length-spelled xs ys = ap length (spelled-append xs ys) ∙ length-append (spelled xs) (spelled ys)

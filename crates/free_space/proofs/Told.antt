@@ -8,7 +8,7 @@ use Rattle.std.proofs.lemmas.Option.{slice_get_within, slice_get-get_or, slice_g
 use Rattle.hal_base.specs.declared.place.Shape.{Shape}
 use Rattle.hal_base.specs.declared.pages.SetId.{SetId}
 use Rattle.hal_base.specs.Pages.{SameHead, empty_page}
-use Rattle.hal_base.specs.ShelfCalls.{ShelfView, SameShelf, GrownBy, SameHeads}
+use Rattle.hal_base.specs.ShelfCalls.{ShelfView, SameShelf, GrownBy, SameHeads, KeepsHeads}
 use Rattle.segment_blocks.specs.declared.tile.Tile.{Tile}
 use Rattle.segment_blocks.specs.Tiling.{IsTiling}
 use Rattle.segment_blocks.specs.TilesOf.{tiles_of}
@@ -269,3 +269,14 @@ relays_put store old new n was block before run other after page put head t u pa
 pub added_is : (count : ℕ) (set : SetId) (old new : ShelfView) → GrownBy count set old new → count ≡ added set old new
 added_is count set old new grown =
     omega (arith, ap length grown.placed, length-append (old.places set) (take count old.free), length-take-le count old.free grown.enough)
+
+-- ---- heads, as hal_base says them
+
+some_heads : (set : SetId) (shapes : List Shape) (old new : Option (List (List ℕ))) (Leads : List (List Tile) → List (List Tile) → Type 0) → ((pages : List (List ℕ)) → old ≡ Some pages → Becomes set shapes pages new Leads)
+    → IfSome old (λ before. IfSome new (SameHeads SameFront 1 set before))
+some_heads set shapes None new Leads become = tt
+some_heads set shapes (Some pages) new Leads become = let b = become pages refl in subst (λ (o : Option (List (List ℕ))). IfSome o (SameHeads SameFront 1 set pages)) (sym b.are) b.heads
+
+-- a change of the tiles keeps the head of each page
+pub relays_heads : (store : CellStore) (old new : ShelfView) (Leads : List (List Tile) → List (List Tile) → Type 0) → Relays store old new Leads → KeepsHeads SameFront 1 store.set old new
+relays_heads store old new Leads relays = some_heads store.set store.shapes (old.pages store.set) (new.pages store.set) Leads relays

@@ -3,7 +3,7 @@ use Rattle.std.specs.Prelude.{◌≡◌, ℕ, ◌-◌, ◌<◌, ◌≤◌, List,
 use Rattle.std.specs.Option.{option_map}
 use Rattle.hal_base.specs.declared.pages.SetId.{SetId}
 use Rattle.hal_base.specs.declared.place.Shape.{Shape}
-use Rattle.hal_base.specs.ShelfCalls.{ShelfView, GrownBy, SameHeads}
+use Rattle.hal_base.specs.ShelfCalls.{ShelfView, GrownBy, OnlyGrows, SameHeads}
 use Rattle.segment_blocks.specs.declared.tile.Cell.{Cell}
 use Rattle.segment_blocks.specs.declared.tile.Tile.{Tile}
 use Rattle.segment_blocks.specs.Tiling.{shape_of, IsTiling}
@@ -12,7 +12,7 @@ use Rattle.free_space.specs.declared.space.Space.{Space}
 use Rattle.free_space.specs.declared.store.CellStore.{CellStore}
 use Rattle.free_space.specs.Space.{space_of}
 use Rattle.free_space.specs.Map.{layout_of, cell_at}
-use Rattle.free_space.specs.Placing.{grown}
+use Rattle.free_space.specs.Placing.{grown, Places, Appends}
 
 -- each page's body is tiled
 abbrev pub AreTiled : List Shape → List (List ℕ) → Type 0
@@ -54,6 +54,26 @@ Relays store old new Leads = (pages : List (List ℕ)) → old.pages store.set �
 -- how many pages a set has got
 abbrev pub added : SetId → ShelfView → ShelfView → ℕ
 added set old new = length (new.places set) - length (old.places set)
+
+-- a cell was placed at the address, in a page of the set or in one that it has got
+abbrev pub PlacesAt : CellStore → Cell → ShelfView → ShelfView → ℕ → Type 0
+PlacesAt store cell old new at = Relays store old new (Places store.set cell (added store.set old new) at)
+
+-- a cell was appended at the address
+abbrev pub AppendsAt : CellStore → Cell → ℕ → ℕ → ShelfView → ShelfView → ℕ → Type 0
+AppendsAt store cell fbff fspf old new at = Relays store old new (Appends store.set cell fbff fspf (added store.set old new) at)
+
+-- the set has got no more than empty pages
+abbrev pub GetsEmpty : CellStore → ShelfView → ShelfView → Type 0
+GetsEmpty store old new = Relays store old new (λ layout now. now ≡ grown (added store.set old new) layout)
+
+-- a call that changes pages of the set and adds those that it has got
+abbrev pub Grows : CellStore → Type 0 → Type 0 → ShelfView → ShelfView → Type 0
+Grows store steady failed old new = OnlyGrows (added store.set old new) store.set steady failed old new
+
+-- so of the layout, where the pages are told
+abbrev pub IsSaid : CellStore → ShelfView → (List (List Tile) → Type 0) → Type 0
+IsSaid store shelf P = (pages : List (List ℕ)) → shelf.pages store.set ≡ Some pages → P (layout_of store.shapes pages)
 
 -- so many empty pages were added behind those of the set
 pub record GrewBy (count : ℕ) (store : CellStore) (old new : ShelfView) : Type 0 where

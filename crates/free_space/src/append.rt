@@ -1,10 +1,9 @@
 // A new cell past the last cell of the data set.
-ghost use Rattle.std.specs.Prelude.{◌≡◌, ◌≢◌, ℕ, ◌+◌, ◌-◌, ◌<◌, ◌≤◌, ◌^◌, List as ListOf, length, slice_get, Some, IfOk, IfSome, IfNone, MatchResult, OnOk, OnErr, IsErrOf, IsTrue, ◌↔◌};
-ghost use Rattle.hal_base.specs.ShelfCalls.{SameShelf, Keeps, OnlyChanges, OnlyGrows};
+ghost use Rattle.std.specs.Prelude.{◌≡◌, ◌≢◌, ℕ, ◌+◌, ◌-◌, ◌<◌, ◌≤◌, ◌^◌, length, slice_get, Some, IfOk, IfSome, IfNone, MatchResult, OnOk, OnErr, IsErrOf, IsTrue, ◌↔◌};
+ghost use Rattle.hal_base.specs.ShelfCalls.{SameShelf, Keeps, OnlyChanges};
 ghost use Rattle.free_space.specs.declared.space.Space.{Space as SpaceOf};
-ghost use Rattle.free_space.specs.Map.{layout_of};
-ghost use Rattle.free_space.specs.Placing.{length_of, grown, is_due, opened_pages, AppendsIn, Appends, NoPlace, IsLeft, IsLastOpen, HasRoom};
-ghost use Rattle.free_space.specs.Store.{StandsFor, StaysOpen, Relays, added, GrewBy, IsTyped};
+ghost use Rattle.free_space.specs.Placing.{length_of, is_due, opened_pages, AppendsIn, NoPlace, IsLeft, IsLastOpen, HasRoom};
+ghost use Rattle.free_space.specs.Store.{StandsFor, StaysOpen, Relays, AppendsAt, GetsEmpty, Grows, IsSaid, added, GrewBy, IsTyped};
 
 use crate::CellStore;
 use crate::space::Space;
@@ -128,15 +127,14 @@ impl CellStore {
         requires typed { IsTyped self.old.shapes cell.now }
         requires content { length cell.now.content ≤ 2016 }
         requires step { fbff ≢ 1 }
-        ensures appended { MatchResult result (λ at. Relays self.old (H.seen shelf.old) (H.seen shelf.new) (Appends self.old.set cell.now fbff fspf (added self.old.set (H.seen shelf.old) (H.seen shelf.new)) at))
-            (λ fault. Relays self.old (H.seen shelf.old) (H.seen shelf.new) (λ layout now. now ≡ grown (added self.old.set (H.seen shelf.old) (H.seen shelf.new)) layout)) }
+        ensures appended { MatchResult result (AppendsAt self.old cell.now fbff fspf (H.seen shelf.old) (H.seen shelf.new)) (λ _. GetsEmpty self.old (H.seen shelf.old) (H.seen shelf.new)) }
         ensures no_room { IsErrOf result PageFault.NoRoom → (length (H.seen shelf.old).free < opened_pages fbff (length ((H.seen shelf.old).places self.old.set)))
-            × ((pages : ListOf (ListOf ℕ)) → (H.seen shelf.old).pages self.old.set ≡ Some pages → NoPlace fbff fspf (length_of cell.now) (layout_of self.old.shapes pages)) }
+            × IsSaid self.old (H.seen shelf.old) (NoPlace fbff fspf (length_of cell.now)) }
         ensures few { added self.old.set (H.seen shelf.old) (H.seen shelf.new) ≤ opened_pages fbff (length ((H.seen shelf.old).places self.old.set)) }
         ensures opened { OnOk result (0 < added self.old.set (H.seen shelf.old) (H.seen shelf.new) →
             added self.old.set (H.seen shelf.old) (H.seen shelf.new) ≡ opened_pages fbff (length ((H.seen shelf.old).places self.old.set))) }
         ensures stays { StaysOpen self.old self.new (H.seen shelf.new) }
-        ensures leaves { OnlyGrows (added self.old.set (H.seen shelf.old) (H.seen shelf.new)) self.old.set (H.steady shelf.old shelf.new) (IsErrOf result PageFault.Failed) (H.seen shelf.old) (H.seen shelf.new) }
+        ensures leaves { Grows self.old (H.steady shelf.old shelf.new) (IsErrOf result PageFault.Failed) (H.seen shelf.old) (H.seen shelf.new) }
     {
         let len = cell_size(self.shape_for(cell));
         match page_with_room(&self.spaces, fbff, fspf, len) {

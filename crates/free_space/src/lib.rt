@@ -8,8 +8,11 @@
 //! run of them gives way to another, and the page is staged. What was read is tested before it is relied on, since a
 //! shelf that tells no content may give other bytes each time.
 //!
-//! `page.rt` changes the tiles of one page, `tiles.rt` looks among them; `store.rt` has the store, and each other file
-//! the calls of its name.
+//! A call is said by what it answers, by what it makes of the tiles of all pages and of the map from address to cell,
+//! by what it leaves alone, and by when each fault comes. The store stands for its data set before and after it.
+//!
+//! `page.rt` changes the tiles of one page, `tiles.rt` looks among them; `store.rt` has the store, `edit.rt` finds and
+//! changes one cell, and each other file has the calls of its name.
 #![tactic(auto)]
 
 mod address;

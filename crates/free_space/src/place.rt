@@ -1,9 +1,8 @@
 // A new cell in the lowest hole in which it has place.
-ghost use Rattle.std.specs.Prelude.{◌≡◌, ◌≢◌, ℕ, ◌+◌, ◌<◌, ◌≤◌, [], List as ListOf, length, Some, IfOk, MatchResult, OnOk, OnErr, IsErrOf, IsTrue};
-ghost use Rattle.hal_base.specs.ShelfCalls.{SameShelf, OnlyChanges, OnlyGrows};
-ghost use Rattle.free_space.specs.Map.{layout_of};
-ghost use Rattle.free_space.specs.Placing.{length_of, grown, NoHoleFits, PlacesIn, Places};
-ghost use Rattle.free_space.specs.Store.{StandsFor, StaysOpen, Relays, added, IsTyped};
+ghost use Rattle.std.specs.Prelude.{◌≡◌, ◌≤◌, [], length, IfOk, MatchResult, OnOk, OnErr, IsErrOf, IsTrue};
+ghost use Rattle.hal_base.specs.ShelfCalls.{SameShelf, OnlyChanges};
+ghost use Rattle.free_space.specs.Placing.{length_of, NoHoleFits, PlacesIn};
+ghost use Rattle.free_space.specs.Store.{StandsFor, StaysOpen, Relays, PlacesAt, GetsEmpty, Grows, IsSaid, added, IsTyped};
 
 use crate::CellStore;
 use crate::growing::first_page;
@@ -46,13 +45,12 @@ impl CellStore {
         requires takes { IsTrue ((H.seen shelf.old).takes self.old.set 1) }
         requires typed { IsTyped self.old.shapes cell.now }
         requires content { length cell.now.content ≤ 2016 }
-        ensures placed { MatchResult result (λ at. Relays self.old (H.seen shelf.old) (H.seen shelf.new) (Places self.old.set cell.now (added self.old.set (H.seen shelf.old) (H.seen shelf.new)) at))
-            (λ fault. Relays self.old (H.seen shelf.old) (H.seen shelf.new) (λ layout now. now ≡ grown (added self.old.set (H.seen shelf.old) (H.seen shelf.new)) layout)) }
+        ensures placed { MatchResult result (PlacesAt self.old cell.now (H.seen shelf.old) (H.seen shelf.new)) (λ _. GetsEmpty self.old (H.seen shelf.old) (H.seen shelf.new)) }
         ensures no_room { IsErrOf result PageFault.NoRoom → ((H.seen shelf.old).free ≡ []) × SameShelf (H.seen shelf.old) (H.seen shelf.new)
-            × ((pages : ListOf (ListOf ℕ)) → (H.seen shelf.old).pages self.old.set ≡ Some pages → NoHoleFits (length_of cell.now) (layout_of self.old.shapes pages)) }
+            × IsSaid self.old (H.seen shelf.old) (NoHoleFits (length_of cell.now)) }
         ensures few { added self.old.set (H.seen shelf.old) (H.seen shelf.new) ≤ 1 }
         ensures stays { StaysOpen self.old self.new (H.seen shelf.new) }
-        ensures leaves { OnlyGrows (added self.old.set (H.seen shelf.old) (H.seen shelf.new)) self.old.set (H.steady shelf.old shelf.new) (IsErrOf result PageFault.Failed) (H.seen shelf.old) (H.seen shelf.new) }
+        ensures leaves { Grows self.old (H.steady shelf.old shelf.new) (IsErrOf result PageFault.Failed) (H.seen shelf.old) (H.seen shelf.new) }
     {
         let len = cell_size(self.shape_for(cell));
         match first_page(&self.spaces, len) {

@@ -32,6 +32,7 @@ impl CellStore {
         ensures tiling { IfOk result (IsTiling self.now.shapes block.new) }
         ensures page { OnOk result (IsPage self.now.set page block.new (H.seen shelf.old)) }
         ensures below { OnOk result (page < length self.now.spaces.items) }
+        ensures stands { StandsFor self.now (H.seen shelf.new) }
         ensures room { result ≡ Err PageFault.NoRoom → ⊥ }
         ensures leaves { OnlyReads 1 (H.steady shelf.old shelf.new) (IsErrOf result PageFault.Failed) (H.seen shelf.old) (H.seen shelf.new) }
     {

@@ -1,10 +1,9 @@
 -- What a shelf promises of its pages, blocks and free blocks holds of one in memory.
-use Rattle.std.proofs.Common.{◌≡◌, ℕ, zero, suc, ◌+◌, ◌-◌, ◌≤◌, Bool, true, false, cond, List, [], ◌∷◌, length, All, Option, Some, None, unwrap_or, nat_le, refl, ap, subst, arith}
+use Rattle.std.proofs.Common.{◌≡◌, ℕ, zero, suc, ◌+◌, ◌-◌, ◌≤◌, Bool, true, false, cond, List, [], ◌∷◌, length, All, nat_le, refl, ap, arith}
 use Rattle.std.specs.List.{range_with_len}
 use Rattle.std.proofs.lemmas.Bool.{and_from, le-leb}
 use Rattle.std.proofs.lemmas.List.FromFn.{length-range_with_len}
 use Rattle.std.proofs.lemmas.List.Elements.{All-nil, All-cons}
-use Rattle.std.proofs.lemmas.Option.{none-some}
 use Rattle.hal_base.specs.Pages.{rises_from}
 use Rattle.hal_base.specs.declared.pages.SetId.{SetId}
 use Rattle.memory_shelf.specs.Shelved.{places_of, pages_of, is_set}

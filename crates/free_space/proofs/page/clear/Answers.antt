@@ -18,26 +18,12 @@ overflow_sub-len c =
     c.requires.tiled.1 long (c.start_of-at.ensures c.requires.tiled.0 c.args.block.now c.requires.tiled.1 long) (c.start_of.ensures c.requires.tiled.0 c.args.block.now c.requires.tiled.1 long) in
     s.1.forward
 
-pub write_hole-requires-clause-room : goal.write_hole-requires-clause-room
-write_hole-requires-clause-room c =
+pub write_hole-requires : goal.write_hole-requires
+write_hole-requires c =
     let long : length c.args.block.now ≡ 4096 = omega arith in
     let s = run_sizes c.requires.tiled.0 c.args.block.now c.args.tiles.now c.args.place c.requires.place.0 c.requires.place.1 c.without_last_hole-front.result.now c.without_first_hole-back.result.now c.start_of-at.result c.start_of.result c.requires.place.2 c.without_last_hole-front.ensures c.without_first_hole-back.ensures
     c.requires.tiled.1 long (c.start_of-at.ensures c.requires.tiled.0 c.args.block.now c.requires.tiled.1 long) (c.start_of.ensures c.requires.tiled.0 c.args.block.now c.requires.tiled.1 long) in
-    omega (arith, s.1.forward, s.1.room)
-
-pub write_hole-requires-clause-least : goal.write_hole-requires-clause-least
-write_hole-requires-clause-least c =
-    let long : length c.args.block.now ≡ 4096 = omega arith in
-    let s = run_sizes c.requires.tiled.0 c.args.block.now c.args.tiles.now c.args.place c.requires.place.0 c.requires.place.1 c.without_last_hole-front.result.now c.without_first_hole-back.result.now c.start_of-at.result c.start_of.result c.requires.place.2 c.without_last_hole-front.ensures c.without_first_hole-back.ensures
-    c.requires.tiled.1 long (c.start_of-at.ensures c.requires.tiled.0 c.args.block.now c.requires.tiled.1 long) (c.start_of.ensures c.requires.tiled.0 c.args.block.now c.requires.tiled.1 long) in
-    s.1.least
-
-pub write_hole-requires-clause-whole : goal.write_hole-requires-clause-whole
-write_hole-requires-clause-whole c =
-    let long : length c.args.block.now ≡ 4096 = omega arith in
-    let s = run_sizes c.requires.tiled.0 c.args.block.now c.args.tiles.now c.args.place c.requires.place.0 c.requires.place.1 c.without_last_hole-front.result.now c.without_first_hole-back.result.now c.start_of-at.result c.start_of.result c.requires.place.2 c.without_last_hole-front.ensures c.without_first_hole-back.ensures
-    c.requires.tiled.1 long (c.start_of-at.ensures c.requires.tiled.0 c.args.block.now c.requires.tiled.1 long) (c.start_of.ensures c.requires.tiled.0 c.args.block.now c.requires.tiled.1 long) in
-    s.1.whole
+    record { body = omega (arith, s.1.begins); room = omega (arith, s.1.forward, s.1.room); least = s.1.least; whole = s.1.whole }
 
 pub returns-clause-cleared : goal.returns-clause-cleared
 returns-clause-cleared c = λ shapes offset cell t is.

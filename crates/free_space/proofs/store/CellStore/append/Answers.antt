@@ -8,8 +8,7 @@ use Rattle.free_space.specs.declared.space.Space.{Space}
 use Rattle.free_space.specs.Placing.{opened_pages, Appends, IsLastOpen, HasRoom}
 use Rattle.free_space.specs.Store.{Relays}
 use Rattle.free_space.proofs.Told.{handed_on, handed_to, if_some, added_is, stays_then}
-use Rattle.free_space.proofs.AppendSteps.{NoRoomIn, no_place, appended_here, appended_behind}
-use Rattle.free_space.proofs.GrownSteps.{match_of, match_err, on_ok_any, none_added, grows_only, grew_none, grew_same, grew_as, grown_changed}
+use Rattle.free_space.proofs.PlaceSteps.{NoRoomIn, no_place, appended_here, appended_behind, match_of, match_err, on_ok_any, none_added, grows_only, grew_none, grew_same, grew_as, grown_changed}
 use Rattle.free_space.proofs.store.CellStore.append.Goals as goal
 
 pub returns-in-Some-clause-appended : goal.returns-in-Some-clause-appended

@@ -3,19 +3,9 @@ use Rattle.std.proofs.lemmas.Result.{IfOk-weaker, on_err_weaker}
 use Rattle.hal_base.proofs.ShelfLemmas.{same_then, reads_changes, changes_then}
 use Rattle.free_space.specs.Placing.{TakesHole, AppendsIn}
 use Rattle.free_space.specs.Store.{Relays}
-use Rattle.free_space.proofs.Told.{stands_same, stays_same}
 use Rattle.free_space.proofs.PageSteps.{page_again}
-use Rattle.free_space.proofs.AppendSteps.{appends_in}
+use Rattle.free_space.proofs.PlaceSteps.{appends_in}
 use Rattle.free_space.proofs.store.CellStore.append_in.Goals as goal
-
-pub returns-in_err-tiles-clause-stays : goal.returns-in_err-tiles-clause-stays
-returns-in_err-tiles-clause-stays g c = stays_same c.args.self.now (g.H.Shelf.seen c.args.shelf.now) (g.H.Shelf.seen c.read_page.new.shelf) c.requires.stands c.read_page.ensures.leaves.same
-
-pub returns-in_default-clause-stays : goal.returns-in_default-clause-stays
-returns-in_default-clause-stays g c = stays_same c.args.self.now (g.H.Shelf.seen c.args.shelf.now) (g.H.Shelf.seen c.read_page.new.shelf) c.requires.stands c.read_page.ensures.leaves.same
-
-pub fill_page-requires-clause-stands : goal.fill_page-requires-clause-stands
-fill_page-requires-clause-stands g c = stands_same c.args.self.now (g.H.Shelf.seen c.args.shelf.now) (g.H.Shelf.seen c.read_page.new.shelf) c.requires.stands c.read_page.ensures.leaves.same
 
 pub fill_page-requires-clause-read : goal.fill_page-requires-clause-read
 fill_page-requires-clause-read g c = page_again c.args.self.now.set c.args.page c.read_page.new.block (g.H.Shelf.seen c.args.shelf.now) (g.H.Shelf.seen c.read_page.new.shelf) c.read_page.ensures.leaves.same c.in_ok-tiles.ensures.page

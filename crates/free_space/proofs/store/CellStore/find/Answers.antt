@@ -1,7 +1,6 @@
 use Rattle.std.proofs.Common.{◌/◌, ◌^◌, sym, ◌∙◌, arith}
 use Rattle.std.proofs.lemmas.Bool.{eqb-false, eqb-true}
 use Rattle.free_space.specs.Address.{letter_index}
-use Rattle.free_space.proofs.Told.{stands_same}
 use Rattle.free_space.proofs.PageSteps.{not_in_set, past_pages, found_at, none_among, one_among}
 use Rattle.free_space.proofs.store.CellStore.find.Goals as goal
 
@@ -13,17 +12,11 @@ pub returns-then-from-len-clause-found : goal.returns-then-from-len-clause-found
 returns-then-from-len-clause-found g c =
     past_pages c.args.self.now (g.H.Shelf.seen c.args.shelf.now) c.args.at c.page_of-page.result c.page_of-page.ensures (omega (arith, c.if-from-len.true, c.len.ensures, c.from.ensures)) c.requires.stands
 
-pub returns-in_err-tiles-clause-stands : goal.returns-in_err-tiles-clause-stands
-returns-in_err-tiles-clause-stands g c = stands_same c.args.self.now (g.H.Shelf.seen c.args.shelf.now) (g.H.Shelf.seen c.read_page.new.shelf) c.requires.stands c.read_page.ensures.leaves.same
-
 pub returns-in_default-clause-found : goal.returns-in_default-clause-found
 returns-in_default-clause-found g c =
     found_at c.args.self.now (g.H.Shelf.seen c.args.shelf.now) c.args.at c.page_of-page.result c.offset_of.result c.read_page.new.block c.in_ok-tiles.tiles _
     (eqb-true (c.args.at / 2 ^ 28) (letter_index c.args.self.now.set.letter) (sym c.has_letter.ensures ∙ c.if-not-has_letter.false)) c.page_of-page.ensures c.offset_of.ensures
     c.in_ok-tiles.ensures.page c.in_ok-tiles.ensures.tiling (none_among c.offset_of.result c.in_ok-tiles.tiles c.as_slice.result.now c.as_slice.ensures c.in_default.ensures.none)
-
-pub returns-in_default-clause-stands : goal.returns-in_default-clause-stands
-returns-in_default-clause-stands g c = stands_same c.args.self.now (g.H.Shelf.seen c.args.shelf.now) (g.H.Shelf.seen c.read_page.new.shelf) c.requires.stands c.read_page.ensures.leaves.same
 
 pub returns-in-Ok-clause-found : goal.returns-in-Ok-clause-found
 returns-in-Ok-clause-found g c =
@@ -31,9 +24,3 @@ returns-in-Ok-clause-found g c =
     (eqb-true (c.args.at / 2 ^ 28) (letter_index c.args.self.now.set.letter) (sym c.has_letter.ensures ∙ c.if-not-has_letter.false)) c.page_of-page.ensures c.offset_of.ensures
     c.in_ok-tiles.ensures.page c.in_ok-tiles.ensures.tiling
     (one_among c.args.self.now.shapes c.read_page.new.block c.in_ok-tiles.tiles c.as_slice.result.now c.in-Some.field-0-0 c.offset_of.result c.in-Some.cell.now c.in-Ok.cell c.as_slice.ensures c.in_ok-tiles.ensures.tiling c.in-Some.ensures.found c.in-Ok.ensures)
-
-pub returns-in-Ok-clause-stands : goal.returns-in-Ok-clause-stands
-returns-in-Ok-clause-stands g c = stands_same c.args.self.now (g.H.Shelf.seen c.args.shelf.now) (g.H.Shelf.seen c.read_page.new.shelf) c.requires.stands c.read_page.ensures.leaves.same
-
-pub returns-clause-stands : goal.returns-clause-stands
-returns-clause-stands g c = stands_same c.args.self.now (g.H.Shelf.seen c.args.shelf.now) (g.H.Shelf.seen c.read_page.new.shelf) c.requires.stands c.read_page.ensures.leaves.same

@@ -13,12 +13,6 @@ use Rattle.free_space.proofs.store.CellStore.give_back.Goals as goal
 pub clear-space-requires-clause-place : goal.clear-space-requires-clause-place
 clear-space-requires-clause-place g c = (c.offset_of.result, c.in-Some.field-0-1.now, c.in-Some.ensures.found)
 
-pub returns-in_err-tiles-clause-stays : goal.returns-in_err-tiles-clause-stays
-returns-in_err-tiles-clause-stays g c = stays_same c.args.self.now (g.H.Shelf.seen c.args.shelf.now) (g.H.Shelf.seen c.read_page.new.shelf) c.requires.stands c.read_page.ensures.leaves.same
-
-pub returns-in_default-clause-stays : goal.returns-in_default-clause-stays
-returns-in_default-clause-stays g c = stays_same c.args.self.now (g.H.Shelf.seen c.args.shelf.now) (g.H.Shelf.seen c.read_page.new.shelf) c.requires.stands c.read_page.ensures.leaves.same
-
 pub stage-requires-clause-head : goal.stage-requires-clause-head
 stage-requires-clause-head g c = same_front c.args.self.now.set c.page_of-page.result c.read_page.new.block c.clear-space.new.block (g.H.Shelf.seen c.args.shelf.now) (g.H.Shelf.seen c.read_page.new.shelf)
     c.read_page.ensures.leaves.same c.in_ok-tiles.ensures.page c.clear-space.ensures.head

@@ -5,8 +5,7 @@ use Rattle.hal_base.proofs.ShelfLemmas.{same_changed, keeps_then}
 use Rattle.free_space.specs.Placing.{is_due, opened_pages}
 use Rattle.free_space.specs.Store.{GrewBy}
 use Rattle.free_space.proofs.Told.{handed_on, added_is, stays_then}
-use Rattle.free_space.proofs.AppendSteps.{opened_is_one, opened_is_two}
-use Rattle.free_space.proofs.GrownSteps.{match_weaker, match_err, match_any, none_added, grew_none, grew_same, grew_as, grew_two, grew_many, one_left}
+use Rattle.free_space.proofs.PlaceSteps.{opened_is_one, opened_is_two, match_weaker, match_err, match_any, none_added, grew_none, grew_same, grew_as, grew_two, grew_many, one_left}
 use Rattle.free_space.proofs.store.CellStore.open_page.Goals as goal
 
 pub returns-then-not-is_due-clause-number : goal.returns-then-not-is_due-clause-number

@@ -7,8 +7,7 @@ use Rattle.free_space.specs.declared.space.Space.{Space}
 use Rattle.free_space.specs.Map.{layout_of}
 use Rattle.free_space.specs.Placing.{IsFirstWith}
 use Rattle.free_space.proofs.Told.{handed_on, handed_to, added_is, stays_then}
-use Rattle.free_space.proofs.PlaceSteps.{TooSmall, none_fits, placed_here, placed_behind}
-use Rattle.free_space.proofs.GrownSteps.{match_of, match_err, none_added, grows_only, grew_none, grew_same, grew_as, grown_changed}
+use Rattle.free_space.proofs.PlaceSteps.{TooSmall, none_fits, placed_here, placed_behind, match_of, match_err, none_added, grows_only, grew_none, grew_same, grew_as, grown_changed}
 use Rattle.free_space.proofs.store.CellStore.place.Goals as goal
 
 pub returns-in-Some-clause-placed : goal.returns-in-Some-clause-placed

@@ -8,12 +8,6 @@ use Rattle.free_space.proofs.Told.{stands_same}
 use Rattle.free_space.proofs.PageSteps.{Rewritten, rewritten, stands_rewritten, on_either, same_front}
 use Rattle.free_space.proofs.store.CellStore.rewrite.Goals as goal
 
-pub returns-in_err-tiles-clause-stands : goal.returns-in_err-tiles-clause-stands
-returns-in_err-tiles-clause-stands g c = stands_same c.args.self.now (g.H.Shelf.seen c.args.shelf.now) (g.H.Shelf.seen c.read_page.new.shelf) c.requires.stands c.read_page.ensures.leaves.same
-
-pub returns-in_default-clause-stands : goal.returns-in_default-clause-stands
-returns-in_default-clause-stands g c = stands_same c.args.self.now (g.H.Shelf.seen c.args.shelf.now) (g.H.Shelf.seen c.read_page.new.shelf) c.requires.stands c.read_page.ensures.leaves.same
-
 pub stage-requires-clause-head : goal.stage-requires-clause-head
 stage-requires-clause-head g c = same_front c.args.self.now.set c.page_of-page.result c.read_page.new.block c.rewrite_in.new.block (g.H.Shelf.seen c.args.shelf.now) (g.H.Shelf.seen c.read_page.new.shelf)
     c.read_page.ensures.leaves.same c.in_ok-tiles.ensures.page c.rewrite_in.ensures.head
