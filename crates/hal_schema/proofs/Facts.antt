@@ -32,12 +32,12 @@ key_lies all k [] any fit = cc
 key_lies all k (f ∷ fields) any fit =
     elim (or_cases _ _ any) [
       | inl here ↦
-        let a = and_parts (f.start == k.start && f.bytes == k.bytes) (not (is_key_portion f.name)) here in
-        let b = and_parts (f.start == k.start) (f.bytes == k.bytes) a.0 in
-        let start : f.start ≡ k.start = eqb-true _ _ b.0 in
-        let bytes : f.bytes ≡ k.bytes = eqb-true _ _ b.1 in
-        let l = field_lies all f (not-true _ a.1) (and_parts _ _ fit).0 in
-        subst (λ (s : ℕ). LiesIn all s k.bytes) start (subst (λ (n : ℕ). LiesIn all f.start n) bytes l)
+          let a = and_parts (f.start == k.start && f.bytes == k.bytes) (not (is_key_portion f.name)) here in
+          let b = and_parts (f.start == k.start) (f.bytes == k.bytes) a.0 in
+          let start : f.start ≡ k.start = eqb-true _ _ b.0 in
+          let bytes : f.bytes ≡ k.bytes = eqb-true _ _ b.1 in
+          let l = field_lies all f (not-true _ a.1) (and_parts _ _ fit).0 in
+          subst (λ (s : ℕ). LiesIn all s k.bytes) start (subst (λ (n : ℕ). LiesIn all f.start n) bytes l)
       | inr later ↦ key_lies all k fields later (and_parts _ _ fit).1
     ]
 
