@@ -15,6 +15,7 @@ use Rattle.hal_schema.specs.declared.schema.SegType.{SegType}
 use Rattle.hal_schema.specs.declared.schema.Schema.{Schema}
 use Rattle.hal_schema.specs.SegType.{level_of, key_bytes}
 use Rattle.hal_schema.specs.Built.{IsSchemaOf}
+use Rattle.hal_schema.specs.Facts.{SchemasAreKept}
 use Rattle.hal_schema.specs.Lawful.{all_differ, all_rise, index_is_kept, module_is_kept}
 use Rattle.hal_schema.specs.Places.{partition, twice, least}
 use Rattle.hal_schema.specs.Raw.{types_of, indexes_of, high_below}
@@ -202,13 +203,13 @@ builds : (s : Schema) → Builds (raw_schema_of s) s
 builds s = record { kept = faultless s; said = rebuilt s; alone = λ other h. same_schema (raw_schema_of s) other s h (rebuilt s) }
 
 -- both texts, one behind the other
-pub is_definition : (s : Schema) → IsPrintedSchema s → IsDefinitionOf (dbd_text s ++ partitions_text s) s
-is_definition s h =
+pub is_definition : SchemasAreKept → (s : Schema) → IsPrintedSchema s → IsDefinitionOf (dbd_text s ++ partitions_text s) s
+is_definition all s h =
     let behind : drop (length (dbd_text s)) (dbd_text s ++ partitions_text s) ≡ partitions_text s = drop-append_seam (dbd_text s) (partitions_text s) in
     record {
       raw = raw_schema_of s;
       behind = length (dbd_text s);
       dbd = dbd_read_back s (partitions_text s) h;
-      parts = ap partitions_of behind ∙ partitions_read_back s;
+      parts = ap partitions_of behind ∙ partitions_read_back all s;
       builds = builds s;
     }

@@ -10,7 +10,7 @@ ghost use Rattle.definition_text.specs.Raw.{raw_parts_of};
 ghost use Rattle.definition_text.specs.RawDbd.{raw_dbd_of};
 
 use hal_base::{Bytes, Memory};
-use hal_schema::Schema;
+use hal_schema::{Schema, schemas_are_kept};
 use std::alloc::Global;
 
 /// The canonical DBD text, as `definition_printer` prints it. Whatever stands behind its END line, it reads as the raw
@@ -23,6 +23,7 @@ pub fn print_dbd(alloc: Global, schema: &Schema) -> Result<Bytes, Memory>
 {
     // Read for their range alone: numbers of 32 bits are read back from their digits.
     let (_anch, _rbn) = (schema.anch, schema.rbn);
+    schemas_are_kept();
     let text = definition_printer::print_dbd(alloc, schema)?;
     Ok(text)
 }
@@ -34,6 +35,7 @@ pub fn print_partitions(alloc: Global, schema: &Schema) -> Result<Bytes, Memory>
     ensures rebuilds { IfOk result (λ _. (dbd : RawDbd) → parts_of dbd (raw_parts_of schema.now).parts ≡ schema.now.parts) }
     ensures reads_back { IfOk result (λ text. partitions_of text ≡ Ok (raw_parts_of schema.now)) }
 {
+    schemas_are_kept();
     let text = definition_printer::print_partitions(alloc, schema)?;
     Ok(text)
 }

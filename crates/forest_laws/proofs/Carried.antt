@@ -1,12 +1,12 @@
 -- Paths that are carried along a list: what leaves no trace in them, and where what they keep stands.
-use Rattle.std.proofs.Common.{◌≡◌, ℕ, ◌<◌, ◌≤◌, nat_lt, Bool, true, false, not, cond, ◌&&◌, List, [], ◌∷◌, ◌++◌, ◌⊎◌, inl, inr, refl, sym, ap, subst, ◌∙◌, arith}
+use Rattle.std.proofs.Common.{◌≡◌, ℕ, ◌<◌, ◌≤◌, nat_lt, Bool, true, false, not, cond, List, [], ◌∷◌, ◌++◌, ◌⊎◌, inl, inr, refl, ap, ◌∙◌, arith}
 use Rattle.std.specs.Prelude.{filter}
-use Rattle.std.specs.List.{list_all, list_any}
-use Rattle.std.proofs.lemmas.Bool.{and_parts, and_from, ltb-true, ltb-false, lt-ltb, le-ltb, not-true, not_from_false, or_cases, true≢false}
-use Rattle.std.proofs.lemmas.List.{append_assoc, append-nil}
+use Rattle.std.specs.List.{list_all}
+use Rattle.std.proofs.lemmas.Bool.{and_parts, and_from, ltb-true, ltb-false, lt-ltb, not-true}
+use Rattle.std.proofs.lemmas.List.{append-nil}
 use Rattle.std.proofs.lemmas.List.Elements.{filter-append}
 use Rattle.hal_schema.specs.Paths.{path_with, path_after, with_paths}
-use Rattle.forest_laws.proofs.Lists.{all_append, all_parts, all_weaker, all_filtered, filter_within, filter_all, Among, among_append, among_filter}
+use Rattle.forest_laws.proofs.Lists.{all_append, all_weaker, all_filtered, filter_within, filter_all, Among, among_append, among_filter}
 
 -- no item is of a higher level than x
 abbrev pub not_above : {X : Type 0} → (X → ℕ) → X → X → Bool

@@ -1,20 +1,19 @@
 -- Cutting a span out keeps a forest.
-use Rattle.std.proofs.Common.{◌≡◌, ℕ, zero, suc, ◌+◌, ◌<◌, ◌≤◌, nat_lt, Bool, true, false, not, cond, ◌&&◌, List, [], ◌∷◌, ◌++◌, length, take, drop, Option, Some, None, ◌⊎◌, inl, inr, refl, sym, ap, subst, ◌∙◌, arith}
-use Rattle.std.specs.Prelude.{take_while}
+use Rattle.std.proofs.Common.{◌≡◌, ℕ, ◌≤◌, nat_lt, Bool, true, false, not, cond, List, [], ◌∷◌, ◌++◌, length, take, drop, None, ◌⊎◌, inl, inr, refl, sym, ap, subst, ◌∙◌, arith}
 use Rattle.std.specs.List.{list_all, prefix_len}
-use Rattle.std.proofs.lemmas.Bool.{and_parts, and_from, ltb-true, ltb-false, le-ltb, not_from_false}
+use Rattle.std.proofs.lemmas.Bool.{and_from, ltb-true, ltb-false, le-ltb, not_from_false}
 use Rattle.hal_base.specs.declared.place.Ilk.{Ilk}
 use Rattle.hal_schema.specs.declared.row.Row.{Row}
 use Rattle.hal_schema.specs.declared.schema.SegType.{SegType}
 use Rattle.hal_schema.specs.declared.schema.IndexDef.{IndexDef}
 use Rattle.hal_schema.specs.declared.schema.Schema.{Schema}
 use Rattle.hal_schema.specs.Row.{same_name, row_level}
-use Rattle.hal_schema.specs.Paths.{path_with, path_after, with_paths, paths_of}
+use Rattle.hal_schema.specs.Paths.{path_after, with_paths, paths_of}
 use Rattle.hal_schema.specs.Span.{is_deeper, span_of, without_span}
 use Rattle.hal_schema.specs.Entry.{Entry, entries_by_row}
 use Rattle.hal_schema.specs.Forest.{all_pairs, names_apart, has_length, is_path, is_selected, in_type_order, in_twin_order, keys_apart, entries_differ, is_forest}
 use Rattle.forest_laws.specs.Keeping.{CutKeeps}
-use Rattle.forest_laws.proofs.Lists.{Front, front_of, drop_front, all_weaker, all_without, pairs_without}
+use Rattle.forest_laws.proofs.Lists.{front_of, drop_front, all_weaker, all_without, pairs_without}
 use Rattle.forest_laws.proofs.Carried.{not_above, is_above, starts_above, with_append, passed_over}
 use Rattle.forest_laws.proofs.Parents.{Parts, parts_of, forest_from}
 use Rattle.forest_laws.proofs.EntriesByRow.{pairs_in_order, entries_append}

@@ -1,14 +1,11 @@
 -- The entries of an index where a row comes in, goes out, or has new content.
-use Rattle.std.proofs.Common.{◌≡◌, ℕ, ◌==◌, Bool, true, false, not, cond, ◌&&◌, ◌||◌, List, [], ◌∷◌, ◌++◌, Option, Some, None, ◌⊎◌, inl, inr, refl, sym, ap, subst, ◌∙◌}
-use Rattle.std.specs.Bool.{Decides}
+use Rattle.std.proofs.Common.{◌≡◌, ℕ, ◌==◌, Bool, true, false, not, cond, ◌&&◌, ◌||◌, List, [], ◌∷◌, ◌++◌, Option, Some, None, refl, sym, ap, ◌∙◌}
 use Rattle.std.specs.Prelude.{filter, filter_map, find, flat_map, option_and_then}
 use Rattle.std.specs.List.{list_all, list_any, slice_get, cons_option}
 use Rattle.std.specs.Option.{option_map_or}
 use Rattle.std.specs.Ordering.{is_le}
 use Rattle.std.specs.Str.{bytes_eq}
-use Rattle.std.proofs.lemmas.Bool.{and_parts, and_from, or_cases, not-true, not_from_false, true≢false, both_ways}
 use Rattle.std.proofs.lemmas.Bool.Decides.{same_from_decides}
-use Rattle.std.proofs.lemmas.List.{append_assoc}
 use Rattle.std.proofs.lemmas.List.Elements.{filter-append, filter_map-append}
 use Rattle.std.proofs.lemmas.Slice.Eq.{bytes_eq-Decides}
 use Rattle.hal_base.specs.declared.place.Ilk.{Ilk}
@@ -19,9 +16,8 @@ use Rattle.hal_schema.specs.SegType.{portion}
 use Rattle.hal_schema.specs.Row.{row_key}
 use Rattle.hal_schema.specs.Paths.{concatenated_key}
 use Rattle.hal_schema.specs.Keys.{key_cmp}
-use Rattle.hal_schema.specs.Entry.{Entry, entry_key, entry_of, entries_by_row, with_entry, in_key_order, is_taken}
+use Rattle.hal_schema.specs.Entry.{Entry, entry_of, entries_by_row, with_entry, in_key_order, is_taken}
 use Rattle.hal_schema.specs.Forest.{all_pairs, keys_apart}
-use Rattle.forest_laws.proofs.Lists.{all_weaker, pairs_with}
 
 -- ---- in the order of their keys
 

@@ -1,6 +1,6 @@
 -- What the entries of an index are.
-use Rattle.std.proofs.Common.{◌≡◌, ℕ, ◌+◌, ◌==◌, Bool, true, false, not, cond, ◌&&◌, ◌||◌, List, [], ◌∷◌, ◌++◌, map, reverse, Option, Some, None, refl, sym, ap, subst, ◌∙◌, arith}
-use Rattle.std.specs.Prelude.{count_by, sum_by, filter, filter_map, find, ⊤}
+use Rattle.std.proofs.Common.{◌≡◌, ℕ, ◌+◌, ◌==◌, Bool, true, false, cond, ◌&&◌, ◌||◌, List, [], ◌∷◌, ◌++◌, map, reverse, Option, Some, refl, sym, ap, subst, ◌∙◌, arith}
+use Rattle.std.specs.Prelude.{count_by, sum_by, filter, filter_map, find}
 use Rattle.std.specs.List.{list_any, slice_get, AllByRecursion, AllZip, cons_option}
 use Rattle.std.specs.Ordering.{is_le, ordering_reverse}
 use Rattle.std.specs.declared.cmp.Ordering.{Ordering}
@@ -10,19 +10,18 @@ use Rattle.std.proofs.lemmas.Cmp.{nat_list_cmp_total}
 use Rattle.std.proofs.lemmas.Grind.{reverse_onto}
 use Rattle.std.proofs.lemmas.List.Folds.{list_any-append}
 use Rattle.std.proofs.lemmas.List.Sums.{sum_by-append}
-use Rattle.hal_base.specs.declared.place.Ilk.{Ilk}
 use Rattle.hal_schema.specs.declared.row.Row.{Row}
 use Rattle.hal_schema.specs.declared.schema.IndexDef.{IndexDef}
 use Rattle.hal_schema.specs.declared.schema.SegType.{SegType}
 use Rattle.hal_schema.specs.declared.schema.Schema.{Schema}
 use Rattle.hal_schema.specs.SegType.{parent_code, ancestry}
 use Rattle.hal_schema.specs.Row.{same_name, row_level, row_key}
-use Rattle.hal_schema.specs.Paths.{path_with, path_after, with_paths, paths_of}
+use Rattle.hal_schema.specs.Paths.{path_after, paths_of}
 use Rattle.hal_schema.specs.Keys.{key_cmp}
-use Rattle.hal_schema.specs.Entry.{Entry, entry_of, entries_by_row, with_entry, in_key_order, entries_of}
+use Rattle.hal_schema.specs.Entry.{Entry, entry_of, entries_by_row, with_entry, in_key_order}
 use Rattle.hal_schema.specs.Lawful.{all_rise, is_below_first}
-use Rattle.hal_schema.specs.Facts.{IsKept, KeepsIndex, SchemasAreKept}
-use Rattle.forest_laws.specs.Entries.{IsEntryOf, EntriesAreOfSources, AreInKeyOrder, EntriesAreInKeyOrder}
+use Rattle.hal_schema.specs.Facts.{KeepsIndex, SchemasAreKept}
+use Rattle.forest_laws.specs.Entries.{IsEntryOf, EntriesAreOfSources, EntriesAreInKeyOrder}
 use Rattle.forest_laws.proofs.Names.{name_from}
 use Rattle.forest_laws.proofs.Carried.{above_in}
 use Rattle.forest_laws.proofs.Parents.{Parts, parts_of, path_among}

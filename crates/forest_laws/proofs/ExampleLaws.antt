@@ -1,5 +1,5 @@
 -- Forests that there are.
-use Rattle.std.proofs.Common.{◌≡◌, true, [], IsTrue, refl}
+use Rattle.std.proofs.Common.{[], refl}
 use Rattle.hal_schema.specs.declared.schema.IndexDef.{IndexDef}
 use Rattle.hal_schema.specs.Forest.{entries_differ}
 use Rattle.forest_laws.specs.Examples.{EmptyIsForest, IsExample}

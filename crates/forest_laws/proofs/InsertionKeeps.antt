@@ -1,32 +1,30 @@
 -- Inserting a row that may be inserted keeps a forest.
-use Rattle.std.proofs.Common.{◌≡◌, ℕ, ◌==◌, Bool, true, false, not, cond, ◌&&◌, ◌||◌, List, [], ◌∷◌, ◌++◌, Option, Some, None, IsTrue, inl, inr, refl, sym, ap, subst, ◌∙◌}
+use Rattle.std.proofs.Common.{◌≡◌, ℕ, ◌==◌, Bool, true, false, not, cond, ◌&&◌, List, [], ◌∷◌, ◌++◌, Some, None, inl, inr, refl, sym, ap, subst, ◌∙◌}
 use Rattle.std.specs.Cmp.{IsTotalOrder}
 use Rattle.std.specs.Prelude.{find, is_none}
 use Rattle.std.specs.List.{list_all}
-use Rattle.std.specs.Option.{option_map_or}
 use Rattle.std.specs.Str.{bytes_eq}
-use Rattle.std.proofs.lemmas.Bool.{and_parts, and_from, or_cases, not-true, not_from_false, true≢false, both_ways}
-use Rattle.hal_base.specs.declared.place.Ilk.{Ilk}
+use Rattle.std.proofs.lemmas.Bool.{and_from, or_cases, not-true, not_from_false, both_ways}
 use Rattle.hal_schema.specs.declared.row.Row.{Row}
 use Rattle.hal_schema.specs.declared.schema.SegType.{SegType}
 use Rattle.hal_schema.specs.declared.schema.IndexDef.{IndexDef}
 use Rattle.hal_schema.specs.declared.schema.Schema.{Schema}
 use Rattle.hal_schema.specs.Roots.{root_cmp}
 use Rattle.hal_schema.specs.Row.{same_name, row_level}
-use Rattle.hal_schema.specs.Paths.{path_with, path_after, with_paths, paths_of, concatenated_key}
-use Rattle.hal_schema.specs.Entry.{Entry, entry_key, entries_of, entries_by_row, is_taken}
-use Rattle.hal_schema.specs.Forest.{all_pairs, names_apart, has_length, is_path, is_selected, in_type_order, in_twin_order, keys_apart, entries_differ, is_forest}
-use Rattle.hal_schema.specs.Insertion.{new_path, enters_freely, inserted, may_be_inserted}
+use Rattle.hal_schema.specs.Paths.{path_with, path_after, with_paths, paths_of}
+use Rattle.hal_schema.specs.Entry.{Entry, entries_of, entries_by_row, is_taken}
+use Rattle.hal_schema.specs.Forest.{all_pairs, names_apart, has_length, is_path, is_selected, keys_apart, entries_differ, is_forest}
+use Rattle.hal_schema.specs.Insertion.{new_path, enters_freely}
 use Rattle.hal_schema.specs.Facts.{SchemasAreKept}
 use Rattle.forest_laws.specs.Keeping.{InsertionKeeps}
 use Rattle.forest_laws.proofs.Lists.{all_with, all_both, all_weaker, all_parts, pairs_with}
 use Rattle.forest_laws.proofs.Names.{name_is, name_from}
 use Rattle.forest_laws.proofs.Carried.{with_append, passed_over}
-use Rattle.forest_laws.proofs.Parents.{Parts, parts_of, forest_from}
+use Rattle.forest_laws.proofs.Parents.{parts_of, forest_from}
 use Rattle.forest_laws.proofs.Place.{Placed, placed_of}
-use Rattle.forest_laws.proofs.NewRow.{IsNew, new_parts, new_under, NewPath, new_path_at}
+use Rattle.forest_laws.proofs.NewRow.{new_parts, new_under, NewPath, new_path_at}
 use Rattle.forest_laws.proofs.Order.{Around, types_with, twins_with}
-use Rattle.forest_laws.proofs.EntriesByRow.{bytes_turned, pairs_in_order, untaken, entries_append, Adds, adds, own_key, entry_has_key, is_source}
+use Rattle.forest_laws.proofs.EntriesByRow.{bytes_turned, pairs_in_order, untaken, entries_append, Adds, adds, own_key, entry_has_key}
 use Rattle.forest_laws.proofs.EntriesByRow.Adds.{Nothing, One}
 
 pub none_passes : {X : Type 0} (p : X → Bool) (xs : List X) → is_none (find p xs) ≡ true → list_all (λ x. not (p x)) xs ≡ true

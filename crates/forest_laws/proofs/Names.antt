@@ -9,8 +9,8 @@ use Rattle.hal_schema.specs.declared.row.Row.{Row}
 use Rattle.hal_schema.specs.declared.schema.SegType.{SegType}
 use Rattle.hal_schema.specs.SegType.{parent_code, is_parent_code}
 use Rattle.hal_schema.specs.Row.{same_name, same_parent, is_parent, are_twins}
-use Rattle.hal_schema.specs.Forest.{all_pairs, names_apart, is_child_of}
-use Rattle.forest_laws.proofs.Lists.{Among, among_passes, pairs_at, all_middle, all_weaker}
+use Rattle.hal_schema.specs.Forest.{all_pairs, names_apart}
+use Rattle.forest_laws.proofs.Lists.{Among, among_passes, pairs_at, all_weaker}
 
 ilk_is : (a b : Ilk) → a.addr ≡ b.addr → a.part ≡ b.part → a.number ≡ b.number → a ≡ b
 ilk_is a b e f g = λ i. record { addr = e i; part = f i; number = g i }

@@ -1,23 +1,23 @@
 -- A new row where it is inserted: its parent stands before it, and its path is its parent's and itself.
-use Rattle.std.proofs.Common.{◌≡◌, ℕ, zero, suc, ◌+◌, ◌<◌, ◌≤◌, ◌==◌, nat_lt, Bool, true, false, not, cond, ◌&&◌, ◌||◌, List, [], ◌∷◌, ◌++◌, length, Option, Some, None, ◌⊎◌, inl, inr, refl, sym, ap, subst, ◌∙◌, arith}
-use Rattle.std.specs.Prelude.{filter, find, is_none}
+use Rattle.std.proofs.Common.{◌≡◌, ℕ, ◌<◌, ◌==◌, nat_lt, Bool, true, false, not, cond, ◌&&◌, ◌||◌, List, [], ◌∷◌, ◌++◌, Option, Some, None, ◌⊎◌, inl, inr, refl, sym, ap, subst, ◌∙◌, arith}
+use Rattle.std.specs.Prelude.{find, is_none}
 use Rattle.std.specs.List.{list_all}
 use Rattle.std.specs.Option.{option_map_or}
-use Rattle.std.proofs.lemmas.Bool.{and_parts, and_from, or_cases, or_left, eqb-true, ltb-true, le-ltb, not-true, not_from_false, true≢false, both_ways}
+use Rattle.std.proofs.lemmas.Bool.{and_parts, and_from, or_cases, or_left, eqb-true, ltb-true, le-ltb, not-true, not_from_false, both_ways}
 use Rattle.std.proofs.lemmas.List.{append_assoc}
 use Rattle.hal_base.specs.declared.place.Ilk.{Ilk}
 use Rattle.hal_schema.specs.declared.row.Row.{Row}
 use Rattle.hal_schema.specs.declared.schema.SegType.{SegType}
 use Rattle.hal_schema.specs.declared.schema.Schema.{Schema}
 use Rattle.hal_schema.specs.SegType.{is_parent_code, level_of}
-use Rattle.hal_schema.specs.Row.{same_name, same_parent, is_parent, are_twins, row_level, row_named, is_new_name}
+use Rattle.hal_schema.specs.Row.{same_name, same_parent, is_parent, are_twins, row_level, is_new_name}
 use Rattle.hal_schema.specs.Paths.{path_with, path_after, with_paths, paths_of}
 use Rattle.hal_schema.specs.Forest.{all_pairs, names_apart, has_length, is_child_of, is_path, is_selected, twin_cmp}
 use Rattle.hal_schema.specs.Insertion.{is_twin_before, is_lower_child, stands_before, goes_before, is_first, new_path, has_parent_in, has_free_key, enters_freely, may_be_inserted}
 use Rattle.hal_schema.specs.Facts.{IsKept}
-use Rattle.forest_laws.proofs.Lists.{Among, among_passes, among_append, among_left, among_right, among_middle, all_parts, all_append, all_weaker, all_each, pairs_at, Found, found, find_at, find_none}
-use Rattle.forest_laws.proofs.Names.{name_is, name_from, parent_is, parent_from, parents_are, none_is, twins_are, same_some, one_of_name, no_other, apart_names}
-use Rattle.forest_laws.proofs.Carried.{above_in, Kept, not_above, is_above, after_append, with_append, no_trace, path_above}
+use Rattle.forest_laws.proofs.Lists.{Among, among_passes, among_append, among_left, among_middle, all_parts, all_append, all_weaker, all_each, pairs_at, found, find_at, find_none}
+use Rattle.forest_laws.proofs.Names.{parent_is, parents_are, none_is, twins_are, same_some, one_of_name, apart_names}
+use Rattle.forest_laws.proofs.Carried.{above_in, not_above, is_above, after_append, with_append, no_trace, path_above}
 use Rattle.forest_laws.proofs.Parents.{Parts, IsRootRow, ParentOf, parent_before, child_level, child_parent, row_known, path_among, path_grows}
 use Rattle.forest_laws.proofs.Place.{Behind, Placed}
 

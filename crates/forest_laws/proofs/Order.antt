@@ -1,27 +1,25 @@
 -- The order of children and of twins, with a new row where it is inserted.
-use Rattle.std.proofs.Common.{◌≡◌, ℕ, ◌+◌, ◌<◌, ◌≤◌, ◌==◌, nat_lt, nat_le, Bool, true, false, not, cond, ◌&&◌, ◌||◌, List, [], ◌∷◌, ◌++◌, length, Option, Some, None, ◌⊎◌, inl, inr, refl, sym, ap, subst, ◌∙◌, arith}
+use Rattle.std.proofs.Common.{◌≡◌, ℕ, ◌+◌, ◌<◌, ◌≤◌, ◌==◌, nat_lt, nat_le, Bool, true, false, not, cond, ◌&&◌, ◌||◌, List, ◌∷◌, ◌++◌, Some, ◌⊎◌, inl, inr, refl, sym, ap, subst, ◌∙◌, arith}
 use Rattle.std.specs.Cmp.{IsTotalOrder}
 use Rattle.std.specs.List.{list_all}
 use Rattle.std.specs.declared.cmp.Ordering.{Ordering}
 use Rattle.std.specs.declared.cmp.Ordering.TheVariants.{Less, Equal, Greater}
 use Rattle.std.specs.Ordering.{ordering_reverse, is_lt, is_le, is_eq}
-use Rattle.std.proofs.lemmas.Bool.{and_parts, and_from, or_parts, or_cases, or_left, or_right, ltb-true, ltb-false, lt-ltb, le-leb, leb-true, not-true, not-false, not_from_false, not_from_true, true≢false, both_ways}
+use Rattle.std.proofs.lemmas.Bool.{and_parts, or_parts, or_cases, or_right, ltb-true, ltb-false, le-leb, leb-true, not-true, true≢false, both_ways}
 use Rattle.std.proofs.lemmas.Cmp.{alike_right, nat_list_cmp_total}
 use Rattle.std.proofs.lemmas.List.{append_assoc}
-use Rattle.hal_base.specs.declared.place.Ilk.{Ilk}
 use Rattle.hal_schema.specs.declared.row.Row.{Row}
-use Rattle.hal_schema.specs.declared.schema.SegType.{SegType}
 use Rattle.hal_schema.specs.declared.schema.Schema.{Schema}
-use Rattle.hal_schema.specs.SegType.{is_parent_code, level_of}
+use Rattle.hal_schema.specs.SegType.{level_of}
 use Rattle.hal_schema.specs.Keys.{key_cmp}
 use Rattle.hal_schema.specs.Roots.{root_cmp}
 use Rattle.hal_schema.specs.Row.{same_parent, is_parent, are_twins, row_level, row_key}
-use Rattle.hal_schema.specs.Forest.{all_pairs, names_apart, is_child_of, in_type_order, in_twin_order, may_follow, has_unique_key, twin_cmp}
+use Rattle.hal_schema.specs.Forest.{all_pairs, in_type_order, in_twin_order, may_follow, has_unique_key, twin_cmp}
 use Rattle.hal_schema.specs.Insertion.{is_twin_before, is_lower_child, stands_before, goes_before, is_first, has_free_key}
 use Rattle.hal_schema.specs.Facts.{IsKept}
-use Rattle.forest_laws.proofs.Lists.{Among, among_passes, among_append, among_left, among_right, among_middle, SplitAt, among_split, all_parts, all_among, pairs_at, pairs_with}
+use Rattle.forest_laws.proofs.Lists.{Among, among_passes, among_append, among_left, among_right, among_middle, SplitAt, among_split, all_among, pairs_at, pairs_with}
 use Rattle.forest_laws.proofs.Names.{parent_is, parents_are, parents_from, twins_are, twins_from, same_some, one_of_name, no_other}
-use Rattle.forest_laws.proofs.Carried.{Kept, is_above}
+use Rattle.forest_laws.proofs.Carried.{is_above}
 use Rattle.forest_laws.proofs.Parents.{Parts, IsRootRow, ParentOf, parent_before, child_level, child_parent}
 use Rattle.forest_laws.proofs.Place.{Behind, Placed}
 use Rattle.forest_laws.proofs.NewRow.{NewUnder, stands_as}

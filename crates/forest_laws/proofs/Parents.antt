@@ -1,14 +1,13 @@
 -- In a forest a row's parent stands before it, with nothing between that isn't deeper.
-use Rattle.std.proofs.Common.{◌≡◌, ℕ, zero, suc, ◌+◌, ◌<◌, ◌≤◌, ◌==◌, nat_lt, Bool, true, false, not, ◌&&◌, List, [], ◌∷◌, ◌++◌, length, IsTrue, Option, Some, None, ◌⊎◌, inl, inr, refl, sym, ap, subst, ◌∙◌, arith}
+use Rattle.std.proofs.Common.{◌≡◌, ℕ, zero, suc, ◌+◌, ◌<◌, ◌==◌, nat_lt, Bool, true, false, ◌&&◌, List, [], ◌∷◌, ◌++◌, length, Option, Some, None, ◌⊎◌, inl, inr, refl, subst, arith}
 use Rattle.std.specs.Prelude.{filter, is_none}
 use Rattle.std.specs.List.{list_all}
 use Rattle.std.specs.Option.{option_map_or}
-use Rattle.std.proofs.lemmas.Bool.{and_parts, and_from, eqb-true, true≢false}
-use Rattle.hal_base.specs.declared.place.Ilk.{Ilk}
+use Rattle.std.proofs.lemmas.Bool.{and_parts, and_from, eqb-true}
 use Rattle.hal_schema.specs.declared.row.Row.{Row}
 use Rattle.hal_schema.specs.declared.schema.SegType.{SegType}
 use Rattle.hal_schema.specs.declared.schema.Schema.{Schema}
-use Rattle.hal_schema.specs.SegType.{type_of, parent_code, is_parent_code, level_of}
+use Rattle.hal_schema.specs.SegType.{type_of, is_parent_code}
 use Rattle.hal_schema.specs.Row.{is_parent, row_level}
 use Rattle.hal_schema.specs.Paths.{path_with, path_after, with_paths, paths_of}
 use Rattle.hal_schema.specs.Forest.{all_pairs, names_apart, has_length, is_child_of, is_path, in_type_order, in_twin_order, is_selected, entries_differ, rows_are_named, rows_are_below_parents, types_rise, twins_rise, keys_are_placed, is_forest}

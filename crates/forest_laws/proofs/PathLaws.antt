@@ -1,9 +1,9 @@
 -- What the paths by levels are.
-use Rattle.std.proofs.Common.{◌≡◌, ℕ, zero, suc, ◌+◌, ◌-◌, ◌<◌, ◌≤◌, ◌==◌, nat_lt, Bool, true, false, not, cond, ◌&&◌, List, [], ◌∷◌, ◌++◌, length, map, reverse, take, drop, Option, Some, None, ◌⊎◌, inl, inr, refl, sym, ap, subst, ◌∙◌, arith}
-use Rattle.std.specs.Prelude.{filter, find, flat_map, option_and_then, slice_range, sum_by, is_none, ⊤}
-use Rattle.std.specs.List.{list_all, AllByRecursion, slice_get}
+use Rattle.std.proofs.Common.{◌≡◌, ℕ, zero, suc, ◌+◌, ◌-◌, ◌<◌, ◌≤◌, ◌==◌, nat_lt, Bool, true, false, ◌&&◌, List, [], ◌∷◌, ◌++◌, length, map, reverse, take, drop, Option, Some, None, ◌⊎◌, inl, inr, refl, sym, ap, subst, ◌∙◌, arith}
+use Rattle.std.specs.Prelude.{filter, find, option_and_then, sum_by, is_none}
+use Rattle.std.specs.List.{list_all, AllByRecursion}
 use Rattle.std.specs.Option.{option_map_or}
-use Rattle.std.proofs.lemmas.Bool.{and_parts, and_from, eqb-true, true≢false}
+use Rattle.std.proofs.lemmas.Bool.{and_parts, and_from, eqb-true}
 use Rattle.std.proofs.lemmas.Grind.{reverse_onto}
 use Rattle.std.proofs.lemmas.List.{append_assoc, append-nil, length-append, length-drop}
 use Rattle.std.proofs.lemmas.List.Elements.{filter-append}
@@ -15,11 +15,11 @@ use Rattle.hal_schema.specs.declared.schema.KeyField.{KeyField}
 use Rattle.hal_schema.specs.declared.schema.Schema.{Schema}
 use Rattle.hal_schema.specs.SegType.{type_of, parent_code, is_parent_code, ancestry, key_bytes, path_key_bytes, portion}
 use Rattle.hal_schema.specs.Row.{same_name, row_named, row_level, row_key, is_parent}
-use Rattle.hal_schema.specs.Paths.{path_with, path_after, with_paths, paths_of, concatenated_key}
+use Rattle.hal_schema.specs.Paths.{path_with, path_after, with_paths, concatenated_key}
 use Rattle.hal_schema.specs.Forest.{all_pairs, names_apart, has_length, is_child_of, is_path}
 use Rattle.hal_schema.specs.Facts.{IsKept, SchemasAreKept}
 use Rattle.forest_laws.specs.Paths.{parents_within, path_by_parents, PathsAreByParents, PathsAreAncestries, KeysAreLong, PathsGoOn, PathsBeginAnew, PathsAppend}
-use Rattle.forest_laws.proofs.Lists.{Among, among_passes, among_append, among_left, among_right, among_middle, among_filter, among_split, all_among, filter_all, pairs_at, find_at}
+use Rattle.forest_laws.proofs.Lists.{Among, among_passes, among_append, among_left, among_middle, among_filter, among_split, all_among, filter_all, pairs_at, find_at}
 use Rattle.forest_laws.proofs.Names.{name_from, none_is, parent_code_is}
 use Rattle.forest_laws.proofs.Carried.{above_in, Kept, carried, after_append, with_append}
 use Rattle.forest_laws.proofs.Parents.{Parts, parts_of, path_among, child_parent, row_known}

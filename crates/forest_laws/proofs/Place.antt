@@ -1,13 +1,12 @@
 -- Where an insertion parts the list.
-use Rattle.std.proofs.Common.{◌≡◌, ℕ, zero, suc, ◌+◌, ◌<◌, ◌≤◌, nat_lt, Bool, true, false, not, List, [], ◌∷◌, ◌++◌, length, drop, insert, ◌⊎◌, inl, inr, refl, sym, ap, subst, ◌∙◌, arith}
+use Rattle.std.proofs.Common.{◌≡◌, ℕ, suc, ◌+◌, true, false, not, List, [], ◌∷◌, ◌++◌, length, drop, insert, ◌⊎◌, inl, inr, refl, sym, ap, subst, ◌∙◌, arith}
 use Rattle.std.specs.List.{list_all, prefix_len}
-use Rattle.std.proofs.lemmas.Bool.{not_from_false}
 use Rattle.std.proofs.lemmas.List.{append_assoc, length-append}
 use Rattle.hal_schema.specs.declared.row.Row.{Row}
 use Rattle.hal_schema.specs.declared.schema.Schema.{Schema}
 use Rattle.hal_schema.specs.Row.{row_level}
 use Rattle.hal_schema.specs.Insertion.{stands_before, through_last, insertion_place, inserted}
-use Rattle.forest_laws.proofs.Lists.{Front, front_of, LastOf, NoneOf, last_of, drop_front, insert_between, all_parts}
+use Rattle.forest_laws.proofs.Lists.{front_of, LastOf, NoneOf, last_of, drop_front, insert_between, all_parts}
 use Rattle.forest_laws.proofs.Carried.{is_above, starts_above}
 
 -- the rows up to the place end with one that must stand before, and what is deeper than the new row

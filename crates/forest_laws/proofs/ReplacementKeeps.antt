@@ -1,11 +1,11 @@
 -- Replacing a row's content keeps a forest.
-use Rattle.std.proofs.Common.{◌≡◌, ℕ, ◌==◌, nat_lt, Bool, true, false, not, cond, ◌&&◌, ◌||◌, List, [], ◌∷◌, ◌++◌, map, Option, Some, None, ◌⊎◌, inl, inr, refl, sym, ap, subst, ◌∙◌}
-use Rattle.std.specs.Prelude.{find, flat_map, option_and_then, filter_map, filter, is_none, is_some}
+use Rattle.std.proofs.Common.{◌≡◌, ℕ, ◌==◌, Bool, true, false, not, cond, ◌&&◌, ◌||◌, List, [], ◌∷◌, ◌++◌, map, Option, Some, None, ◌⊎◌, inl, inr, refl, sym, ap, subst, ◌∙◌}
+use Rattle.std.specs.Prelude.{find, flat_map, filter_map, filter, is_none, is_some}
 use Rattle.std.specs.List.{list_all, slice_get, cons_option}
 use Rattle.std.specs.Option.{option_map_or}
 use Rattle.std.specs.Ordering.{is_le, is_lt}
 use Rattle.std.specs.Str.{bytes_eq}
-use Rattle.std.proofs.lemmas.Bool.{and_parts, and_from, or_cases, not-true, not_from_false, both_ways, true≢false}
+use Rattle.std.proofs.lemmas.Bool.{and_parts, and_from, or_cases, not-true, both_ways, true≢false}
 use Rattle.std.proofs.lemmas.List.{map-append}
 use Rattle.std.proofs.lemmas.List.Folds.{list_all-map}
 use Rattle.std.proofs.lemmas.Slice.Eq.{bytes_eq-Decides}
@@ -23,7 +23,7 @@ use Rattle.hal_schema.specs.Entry.{Entry, entry_of, entries_of, entries_by_row, 
 use Rattle.hal_schema.specs.Forest.{all_pairs, names_apart, has_length, is_path, is_selected, in_type_order, in_twin_order, has_unique_key, keys_apart, entries_differ, is_forest}
 use Rattle.hal_schema.specs.Span.{with_content, replaced, keeps_freely, may_replace, may_be_replaced}
 use Rattle.forest_laws.specs.Keeping.{ReplacementKeeps}
-use Rattle.forest_laws.proofs.Lists.{Found, found, find_at, find_none, all_parts, all_append, all_weaker, all_both, all_without, pairs_at, PairsAt, pairs_with, pairs_without}
+use Rattle.forest_laws.proofs.Lists.{found, find_at, find_none, all_parts, all_append, all_weaker, all_both, all_without, pairs_at, pairs_with, pairs_without}
 use Rattle.forest_laws.proofs.Names.{others_behind}
 use Rattle.forest_laws.proofs.Carried.{with_append}
 use Rattle.forest_laws.proofs.Parents.{Parts, parts_of, forest_from}

@@ -1,5 +1,5 @@
 -- Where an insertion puts a row, in the words of the rule for twins.
-use Rattle.std.proofs.Common.{◌≡◌, ℕ, zero, suc, ◌+◌, ◌<◌, ◌≤◌, ◌==◌, nat_lt, Bool, true, false, not, cond, ◌&&◌, ◌||◌, List, [], ◌∷◌, ◌++◌, length, map, take, Option, Some, None, ◌⊎◌, inl, inr, refl, sym, ap, subst, ◌∙◌, arith}
+use Rattle.std.proofs.Common.{◌≡◌, ℕ, suc, ◌+◌, ◌<◌, nat_lt, Bool, true, false, not, cond, ◌&&◌, ◌||◌, List, [], ◌∷◌, ◌++◌, length, map, take, Option, Some, None, ◌⊎◌, inl, inr, refl, sym, ap, subst, ◌∙◌, arith}
 use Rattle.std.specs.Cmp.{IsTotalOrder}
 use Rattle.std.specs.Prelude.{filter, find}
 use Rattle.std.specs.List.{list_all, list_any, prefix_len}
@@ -7,10 +7,9 @@ use Rattle.std.specs.Option.{option_map_or}
 use Rattle.std.specs.Ordering.{is_lt, is_eq}
 use Rattle.std.specs.declared.cmp.Ordering.{Ordering}
 use Rattle.std.specs.declared.cmp.Ordering.TheVariants.{Less, Equal, Greater}
-use Rattle.std.proofs.lemmas.Bool.{and_parts, and_from, or_parts, or_left, or_right, ltb-true, ltb-false, lt-ltb, le-ltb, not-true, not_from_false, true≢false, both_ways}
-use Rattle.std.proofs.lemmas.List.{append_assoc, append-nil, map-append}
+use Rattle.std.proofs.lemmas.Bool.{and_parts, and_from, or_parts, ltb-true, ltb-false, lt-ltb, le-ltb, not-true, not_from_false, both_ways}
+use Rattle.std.proofs.lemmas.List.{append_assoc, append-nil}
 use Rattle.std.proofs.lemmas.List.Elements.{filter-append, filter_agree}
-use Rattle.hal_base.specs.declared.place.Ilk.{Ilk}
 use Rattle.hal_schema.specs.declared.row.Row.{Row}
 use Rattle.hal_schema.specs.declared.schema.SegType.{SegType}
 use Rattle.hal_schema.specs.declared.schema.Schema.{Schema}
@@ -19,20 +18,20 @@ use Rattle.hal_schema.specs.Roots.{root_cmp}
 use Rattle.hal_schema.specs.Row.{same_name, same_parent, is_parent, are_twins, row_level}
 use Rattle.hal_schema.specs.Paths.{path_with, path_after, with_paths, paths_of}
 use Rattle.hal_schema.specs.Span.{is_deeper, span_of}
-use Rattle.hal_schema.specs.Forest.{all_pairs, names_apart, has_length, is_child_of, is_path, in_type_order, twin_cmp}
+use Rattle.hal_schema.specs.Forest.{all_pairs, names_apart, has_length, is_path, in_type_order, twin_cmp}
 use Rattle.hal_schema.specs.Insertion.{is_first, is_twin_before, is_lower_child, stands_before, goes_before, twins_before, inserted}
-use Rattle.hal_schema.specs.Facts.{IsKept, SchemasAreKept}
-use Rattle.forest_laws.specs.Places.{is_last, is_earlier_twin, earlier_twins, is_lower_sibling, lower_spans, IsBehind, IsByRule, InsertionsAreByRule}
-use Rattle.forest_laws.proofs.Lists.{Among, among_passes, among_append, among_left, among_right, among_middle, among_filter, SplitAt, among_split, all_among, all_append, all_parts, all_weaker, all_filtered, filter_none, Found, found, pairs_at}
+use Rattle.hal_schema.specs.Facts.{SchemasAreKept}
+use Rattle.forest_laws.specs.Places.{is_earlier_twin, earlier_twins, is_lower_sibling, lower_spans, IsBehind, InsertionsAreByRule}
+use Rattle.forest_laws.proofs.Lists.{Among, among_passes, among_append, among_left, among_right, among_middle, among_filter, all_among, all_append, all_parts, all_weaker, all_filtered, filter_none, Found, found, pairs_at}
 use Rattle.forest_laws.proofs.Names.{name_from, parent_is, parents_from, parents_are, twins_are, same_some, one_of_name}
 use Rattle.forest_laws.proofs.Carried.{above_in, is_above, not_above, starts_above, after_append, with_append, passed_over}
 use Rattle.forest_laws.proofs.Parents.{Parts, parts_of, IsRootRow, ParentOf, parent_before, child_level, child_parent, row_known, path_among}
-use Rattle.forest_laws.proofs.Place.{Behind, Placed, placed_of}
-use Rattle.forest_laws.proofs.NewRow.{IsNew, new_parts, NewUnder, new_under, UnderAt, under_at, stands_as}
+use Rattle.forest_laws.proofs.Place.{Behind, placed_of}
+use Rattle.forest_laws.proofs.NewRow.{new_parts, NewUnder, new_under, UnderAt, under_at, stands_as}
 use Rattle.forest_laws.proofs.Order.{Around, Stands, type_order_is, beside_level, no_child_before}
 use Rattle.forest_laws.proofs.CutKeeps.{take_front}
-use Rattle.forest_laws.proofs.PathLaws.{go_on_at, after_goes_on, path_rows, path_front, path_step, paths_go_on, each_path}
-use Rattle.forest_laws.proofs.SpanLaws.{paths_off, paths_rows, any_none, any_middle}
+use Rattle.forest_laws.proofs.PathLaws.{go_on_at, after_goes_on, path_rows, path_front, path_step, paths_go_on}
+use Rattle.forest_laws.proofs.SpanLaws.{paths_off, paths_rows, any_middle}
 
 -- ---- the twins that must stand before, in both words
 

@@ -1,26 +1,24 @@
 -- What a span is, and what a cut leaves where it was.
-use Rattle.std.proofs.Common.{◌≡◌, ℕ, ◌+◌, ◌<◌, ◌≤◌, nat_lt, Bool, true, false, not, cond, ◌&&◌, ◌||◌, List, [], ◌∷◌, ◌++◌, map, Option, Some, None, ◌⊎◌, inl, inr, refl, sym, ap, subst, ◌∙◌, arith}
-use Rattle.std.specs.Prelude.{filter, find, is_none}
+use Rattle.std.proofs.Common.{◌≡◌, ℕ, nat_lt, Bool, true, false, not, cond, ◌||◌, List, [], ◌∷◌, ◌++◌, map, Some, ◌⊎◌, inl, inr, refl, sym, ap, subst, ◌∙◌, arith}
+use Rattle.std.specs.Prelude.{filter, is_none}
 use Rattle.std.specs.List.{list_all, list_any}
-use Rattle.std.proofs.lemmas.Bool.{and_parts, and_from, or_left, or_right, or_cases, ltb-true, lt-ltb, not-true, not_from_false, not_from_true, true≢false, both_ways}
-use Rattle.std.proofs.lemmas.List.{append_assoc, append-nil, map-append}
+use Rattle.std.proofs.lemmas.Bool.{and_parts, and_from, or_left, or_right, ltb-true, lt-ltb, not-true, not_from_false, not_from_true}
+use Rattle.std.proofs.lemmas.List.{append_assoc, append-nil}
 use Rattle.std.proofs.lemmas.List.Elements.{filter-append}
-use Rattle.std.proofs.lemmas.List.Folds.{list_any-append, list_all-map}
 use Rattle.hal_base.specs.declared.place.Ilk.{Ilk}
 use Rattle.hal_schema.specs.declared.row.Row.{Row}
-use Rattle.hal_schema.specs.declared.schema.SegType.{SegType}
 use Rattle.hal_schema.specs.declared.schema.Schema.{Schema}
 use Rattle.hal_schema.specs.Row.{same_name, is_new_name, row_named, row_level}
 use Rattle.hal_schema.specs.Paths.{path_with, path_after, with_paths, paths_of}
 use Rattle.hal_schema.specs.Span.{span_of, without_span}
 use Rattle.hal_schema.specs.Forest.{all_pairs, names_apart}
-use Rattle.forest_laws.specs.Spans.{is_on, SpansAreBelow, IsCut, CutsAreSpans, those_in, LeavesAnchors, CutsLeaveAnchors}
-use Rattle.forest_laws.proofs.Lists.{Among, among_passes, among_append, among_left, among_right, among_middle, among_split, all_among, all_append, all_parts, all_weaker, filter_all, filter_none, all_in_filtered, all_filtered, find_at, pairs_at, PairsParts, pairs_parts}
+use Rattle.forest_laws.specs.Spans.{is_on, SpansAreBelow, IsCut, CutsAreSpans, those_in, CutsLeaveAnchors}
+use Rattle.forest_laws.proofs.Lists.{Among, among_passes, among_append, among_left, among_right, all_among, all_append, all_parts, all_weaker, filter_all, filter_none, all_in_filtered, all_filtered, PairsParts, pairs_parts}
 use Rattle.forest_laws.proofs.Names.{name_is, name_from, apart_names, others_behind}
 use Rattle.forest_laws.proofs.Carried.{is_above, above_in, with_append, passed_over}
 use Rattle.forest_laws.proofs.Parents.{Parts, parts_of}
 use Rattle.forest_laws.proofs.CutKeeps.{CutAt, NoCut, cut_of}
-use Rattle.forest_laws.proofs.PathLaws.{path_within, path_rows, paths_go_on}
+use Rattle.forest_laws.proofs.PathLaws.{path_within, paths_go_on}
 
 -- ---- a cut
 

@@ -1,5 +1,5 @@
 -- What the entries of an index are.
-use Rattle.std.specs.Prelude.{◌≡◌, ℕ, ◌==◌, ◌&&◌, Bool, true, List, Option, Some, count_by, filter, IsTrue}
+use Rattle.std.specs.Prelude.{◌≡◌, ℕ, ◌==◌, ◌&&◌, Bool, true, List, Some, count_by, filter, IsTrue}
 use Rattle.std.specs.List.{list_any, slice_get, AllZip}
 use Rattle.std.specs.Ordering.{is_le}
 use Rattle.hal_schema.specs.declared.row.Row.{Row}

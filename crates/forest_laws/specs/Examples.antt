@@ -1,5 +1,5 @@
 -- Forests that there are, so that no law has a condition that can't be met: the empty one, and one of three levels with two indexes.
-use Rattle.std.specs.Prelude.{ℕ, Bool, true, false, ◌&&◌, [], ◌∷◌, List, Option, None, Some, codes, fold, map, refl, ◌≡◌, IsTrue}
+use Rattle.std.specs.Prelude.{ℕ, Bool, true, false, ◌&&◌, [], ◌∷◌, List, None, Some, codes, fold, map, refl, ◌≡◌, IsTrue}
 use Rattle.std.specs.List.{list_any}
 use Rattle.hal_base.specs.declared.place.Ilk.{Ilk}
 use Rattle.hal_schema.specs.declared.row.Row.{Row}

@@ -1,9 +1,8 @@
 -- What the paths by levels are.
-use Rattle.std.specs.Prelude.{◌≡◌, ℕ, zero, suc, nat_lt, Bool, List, [], ◌∷◌, ◌++◌, length, reverse, map, filter, find, Option, option_and_then, IsTrue}
+use Rattle.std.specs.Prelude.{◌≡◌, ℕ, zero, suc, nat_lt, List, [], ◌∷◌, ◌++◌, length, reverse, map, filter, option_and_then, IsTrue}
 use Rattle.std.specs.List.{list_all, AllByRecursion}
 use Rattle.std.specs.Option.{option_map_or}
 use Rattle.hal_schema.specs.declared.row.Row.{Row}
-use Rattle.hal_schema.specs.declared.schema.SegType.{SegType}
 use Rattle.hal_schema.specs.declared.schema.Schema.{Schema}
 use Rattle.hal_schema.specs.SegType.{parent_code, ancestry, path_key_bytes}
 use Rattle.hal_schema.specs.Row.{row_named}

@@ -1,5 +1,5 @@
 -- What a span is, and what a cut leaves where it was.
-use Rattle.std.specs.Prelude.{◌≡◌, ℕ, Bool, not, List, [], ◌∷◌, ◌++◌, map, filter, IsTrue}
+use Rattle.std.specs.Prelude.{◌≡◌, Bool, not, List, ◌++◌, map, filter, IsTrue}
 use Rattle.std.specs.List.{list_any}
 use Rattle.hal_base.specs.declared.place.Ilk.{Ilk}
 use Rattle.hal_schema.specs.declared.row.Row.{Row}

@@ -1,5 +1,5 @@
 -- In a forest of the first schema all rows are roots in the order of their keys, and inserting one is inserting it there.
-use Rattle.std.proofs.Common.{◌≡◌, ℕ, zero, suc, ◌+◌, ◌<◌, ◌≤◌, Bool, true, false, cond, not, List, [], ◌∷◌, ◌++◌, length, reverse, insert, take, drop, nat_lt, IsTrue, codes, unwrap_or, Option, None, Some, IsSome, refl, sym, ap, ◌∙◌, subst, arith, get_or}
+use Rattle.std.proofs.Common.{◌≡◌, ℕ, zero, suc, ◌+◌, ◌<◌, ◌≤◌, Bool, true, false, cond, not, List, [], ◌∷◌, ◌++◌, length, reverse, insert, take, drop, nat_lt, IsTrue, codes, unwrap_or, Option, None, Some, IsSome, refl, sym, ap, ◌∙◌, subst, arith}
 use Rattle.std.specs.Prelude.{◌==◌, ◌&&◌, ◌||◌, filter, is_some, is_none}
 use Rattle.std.specs.List.{prefix_len, list_all}
 use Rattle.std.proofs.lemmas.Grind.{reverse_onto}
@@ -16,11 +16,11 @@ use Rattle.std.specs.Str.{bytes_eq}
 use Rattle.hal_base.specs.declared.place.Ilk.{Ilk}
 use Rattle.hal_schema.specs.declared.row.Row.{Row}
 use Rattle.hal_schema.specs.First.{first_schema, first_types}
-use Rattle.hal_schema.specs.Forest.{has_length, is_path, is_child_of, is_selected, may_follow, in_twin_order, rows_are_named, rows_are_below_parents, types_rise, twins_rise, keys_are_placed, entries_differ, all_pairs, names_apart}
+use Rattle.hal_schema.specs.Forest.{has_length, is_path, is_child_of, is_selected, in_twin_order, rows_are_named, rows_are_below_parents, types_rise, twins_rise, keys_are_placed, entries_differ, all_pairs, names_apart}
 use Rattle.hal_schema.specs.Insertion.{through_last, stands_before, goes_before, inserted, insertion_place}
 use Rattle.hal_schema.specs.Keys.{key_cmp}
-use Rattle.hal_schema.specs.Row.{row_key, row_level, are_twins}
-use Rattle.hal_schema.specs.Paths.{path_with, with_paths, paths_of}
+use Rattle.hal_schema.specs.Row.{row_key, row_level}
+use Rattle.hal_schema.specs.Paths.{path_with, with_paths}
 use Rattle.hal_schema.specs.Roots.{partition_of, partition_place, root_cmp}
 use Rattle.hal_schema.specs.SegType.{type_of, level_of}
 use Rattle.hal_schema.specs.declared.schema.SegType.{SegType}

@@ -11,4 +11,4 @@ returns-clause-reads_back c rest =
 
 pub returns-clause-rebuilds : goal.returns-clause-rebuilds
 returns-clause-rebuilds c =
-    rw c.in_ok-text.ensures (is_definition c.args.schema.now (schema_printed c.args.schema.now (plain c.args.schema.now) (omega arith) (omega arith)))
+    rw c.in_ok-text.ensures (is_definition c.schemas_are_kept.ensures c.args.schema.now (schema_printed c.args.schema.now (plain c.args.schema.now) (omega arith) (omega arith)))
