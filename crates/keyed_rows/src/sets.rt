@@ -14,15 +14,12 @@ const SET: SetId = SetId {
 
 /// A page with rows of these numbers, one behind the other.
 fn put_numbers(page: &mut [u8; BLOCK], numbers: &[u8]) {
-    let mut start = 16;
-    for number in numbers {
-        if start + 7 <= BLOCK {
-            page[start..start + 3].copy_from_slice(&key_of(*number));
-            page[start + 6] = *number;
-            start += 7;
-        }
+    for (at, number) in numbers.iter().enumerate() {
+        let start = 16 + 7 * at.min(500);
+        page[start..start + 3].copy_from_slice(&key_of(*number));
+        page[start + 6] = *number;
     }
-    page[9] = ((start - 16) / 7).min(255) as u8;
+    page[9] = numbers.len().min(255) as u8;
 }
 
 /// Adds a page with rows of these numbers to the set.

@@ -1,8 +1,8 @@
 -- Ranges of keys that don't overlap: the test, and what it says.
-use Rattle.std.proofs.Common.{◌≡◌, ◌⊎◌, true, false, List, get_or, length, inl, inr, sym, ap, subst, ◌∙◌}
-use Rattle.std.specs.Prelude.{Contains, ◌||◌}
+use Rattle.std.proofs.Common.{◌≡◌, true, List, get_or, inl, inr, sym, ap, subst, ◌∙◌}
+use Rattle.std.specs.Prelude.{◌||◌}
 use Rattle.std.specs.List.{list_all}
-use Rattle.std.proofs.lemmas.Bool.{cases_Bool, or_left, or_right, both_ways}
+use Rattle.std.proofs.lemmas.Bool.{cases_Bool, or_left, or_right}
 use Rattle.std.proofs.lemmas.List.Sums.{AllPass-from_list_all, list_all-from_AllPass}
 use Rattle.std.proofs.lemmas.List.Elements.{Contains-get_or}
 use Rattle.keyed_sets.specs.Layout.{Row, is_below}

@@ -12,7 +12,6 @@ use Rattle.keyed_sets.specs.declared.row.RowShape.{RowShape}
 use Rattle.keyed_sets.specs.declared.index.First.{First}
 use Rattle.keyed_sets.specs.Changes.{placed, HasSpare}
 use Rattle.keyed_sets.specs.Layout.{Row, rows_in, rows_from, count_of, end_of, is_below, row_length, PutsRows}
-use Rattle.hal_base.specs.Pages.{SameHead}
 use Rattle.keyed_sets.specs.Map.{rows_of, with_row}
 use Rattle.keyed_sets.specs.Places.{HasNoRows, first_or, second_page, IsPut, Fits, Begins, Puts}
 use Rattle.keyed_sets.specs.Rule.{KeepsRule, capacity, tables, page_rows}
@@ -134,9 +133,6 @@ begun_puts shape pages pages1 told2 firsts n rest page page2 row some b staged =
       rows = subst (λ o. IsSomeAnd o (λ after. rows_of shape after ≡ with_row row (rows_of shape pages))) (sym staged) (begun_rows shape pages pages1 firsts n rest page page2 row b);
     }
 
-starts_alone : (key : List ℕ) (row : Row) → StartsWith key (row ∷ []) → row.0 ≡ key
-starts_alone key row is = is
-
 pub begun_stands : (shape : RowShape) (pages pages1 : List (List ℕ)) (firsts : List First) (n : ℕ) (rest : List ℕ) (page page2 : List ℕ) (row : Row) (key : List ℕ) → BegunAt shape pages pages1 firsts n rest page page2 row → StartsWith key (row ∷ [])
     → Stands shape (insert firsts (length firsts) (record { key = key; page = n })) rest (set pages1 n page2)
 begun_stands shape pages pages1 firsts n rest page page2 row key b starts =
@@ -153,9 +149,6 @@ first_room shape count none short = subst (λ (n : ℕ). end_of shape (n + 1) �
 
 pub room_first : (shape : RowShape) (count : ℕ) → count ≡ 0 → row_length shape ≤ 2040 → end_of shape (count + 1) ≤ 4096
 room_first shape count none short = first_room shape count none short
-
-pub head_at : (pages : List (List ℕ)) (n : ℕ) (page page2 : List ℕ) → slice_get pages n ≡ Some page → SameHead page page2 → IfSome (slice_get pages n) (λ old. SameHead old page2)
-head_at pages n page page2 read head = subst (λ o. IfSome o (λ old. SameHead old page2)) (sym read) head
 
 -- the first of the empty pages, read and written, told or not
 pub record BegunTold (shape : RowShape) (told told1 told2 : Option (List (List ℕ))) (firsts0 firsts : List First) (empty0 empty1 : List ℕ) (page page2 : List ℕ) (row : Row) : Type 0 where

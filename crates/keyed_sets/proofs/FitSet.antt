@@ -1,11 +1,10 @@
 -- A row put into its page, over the set as a whole.
-use Rattle.std.proofs.Common.{◌≡◌, ◌⊎◌, ℕ, ◌+◌, ◌<◌, ◌≤◌, true, false, List, length, set, Option, Some, inl, inr, sym, ap, subst}
+use Rattle.std.proofs.Common.{◌≡◌, ℕ, ◌+◌, ◌<◌, ◌≤◌, false, List, set, inl, inr, sym, subst}
 use Rattle.std.specs.Prelude.{IfSome, slice_get}
 use Rattle.std.specs.Option.{option_map}
 use Rattle.std.proofs.lemmas.Bool.{cases_Bool}
 use Rattle.hal_base.specs.Pages.{SameHead}
 use Rattle.hal_base.specs.ShelfCalls.{ShelfView, KeepsHeads}
-use Rattle.keyed_sets.specs.declared.index.First.{First}
 use Rattle.keyed_sets.specs.declared.seek.Spot.{Spot}
 use Rattle.keyed_sets.specs.declared.set.KeyedSet.{KeyedSet}
 use Rattle.keyed_sets.specs.Calls.{IsOpened}
@@ -20,8 +19,8 @@ use Rattle.keyed_sets.proofs.Fits.{FitTold}
 use Rattle.keyed_sets.proofs.Heads.{heads_told, heads_same, heads_put}
 use Rattle.keyed_sets.proofs.Lookups.{page_rises}
 use Rattle.keyed_sets.proofs.OpenSets.{opened_stands}
-use Rattle.keyed_sets.proofs.Spots.{At, at_told, own_default}
-use Rattle.keyed_sets.proofs.Told.{where_told, told_both, told_at}
+use Rattle.keyed_sets.proofs.Spots.{at_told, own_default}
+use Rattle.keyed_sets.proofs.Told.{where_told, told_both}
 
 -- a page that was read gets other rows, and keeps its head
 pub head_told : (id : KeyedSet) (key : List ℕ) (spot : Spot) (page page2 : List ℕ) (seen : ShelfView) → IsOpened id seen → IsSought id key spot page seen → (Rise (rows_in id.shape page) → SameHead page page2)

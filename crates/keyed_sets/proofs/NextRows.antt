@@ -1,7 +1,6 @@
 -- The rows next to a key, found in the page where it belongs or the one behind it.
-use Rattle.std.proofs.Common.{◌≡◌, ◌⊎◌, ℕ, ◌+◌, ◌-◌, ◌<◌, ◌≤◌, Bool, true, false, cond, List, [], ◌∷◌, length, get_or, Option, Some, None, Result, Ok, Err, inl, inr, refl, sym, ap, subst, ◌∙◌, arith}
-use Rattle.std.specs.Prelude.{Contains, IfSome, IfOk, slice_get}
-use Rattle.std.proofs.lemmas.Result.{IfOk-weaker}
+use Rattle.std.proofs.Common.{◌≡◌, ◌⊎◌, ℕ, ◌+◌, ◌-◌, ◌<◌, ◌≤◌, Bool, true, false, cond, List, [], ◌∷◌, length, get_or, Option, Some, None, inl, inr, refl, sym, ap, subst, ◌∙◌, arith}
+use Rattle.std.specs.Prelude.{Contains, slice_get}
 use Rattle.std.specs.List.{AllWithin}
 use Rattle.std.specs.Option.{option_and_then, option_map}
 use Rattle.std.proofs.lemmas.Bool.{both_ways, cases_lt, cases_eq, cases_order}
@@ -11,7 +10,7 @@ use Rattle.std.proofs.lemmas.List.Elements.{Contains-get_or}
 use Rattle.std.proofs.lemmas.List.Sums.{prefix_len_passes, prefix_len_stops}
 use Rattle.keyed_sets.specs.declared.row.RowShape.{RowShape}
 use Rattle.keyed_sets.specs.declared.index.First.{First}
-use Rattle.keyed_sets.specs.Layout.{Row, rows_in, is_below, place_of}
+use Rattle.keyed_sets.specs.Layout.{Row, is_below, place_of}
 use Rattle.keyed_sets.specs.Map.{KeysRise, first_above, next_after, last_below, rows_of}
 use Rattle.keyed_sets.specs.Rule.{tables, page_rows}
 use Rattle.keyed_sets.specs.Standing.{StartsWith, IsIndex, Stands, no_first}
@@ -20,10 +19,9 @@ use Rattle.keyed_sets.proofs.Keys.{below_both, below_itself, below_trans, below_
 use Rattle.keyed_sets.proofs.Maps.{Rows, above_is, above_none, least_is, least_none, below_is, below_none}
 use Rattle.keyed_sets.proofs.Members.{nothing_there, at_front, further, front_or, rise_at}
 use Rattle.keyed_sets.proofs.Tables.{from_first}
-use Rattle.keyed_sets.proofs.Openings.{IsSplit, split_from, before_by_first}
-use Rattle.keyed_sets.proofs.Told.{told_at}
+use Rattle.keyed_sets.proofs.Openings.{IsSplit, before_by_first}
 use Rattle.keyed_sets.proofs.Sets.{lawful, row_in, in_rows, rows_rise, Here, Lower, Behind, side_of}
-use Rattle.keyed_sets.proofs.Lookups.{missing_at, page_is}
+use Rattle.keyed_sets.proofs.Lookups.{missing_at}
 
 -- a row by its key and its body
 both_parts : (o : Option Row) (k b : List ℕ) → option_map (λ row. row.0) o ≡ Some k → option_map (λ row. row.1) o ≡ Some b → o ≡ Some (k, b)

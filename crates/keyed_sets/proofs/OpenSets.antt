@@ -1,12 +1,10 @@
 -- A set that is open, and stays so.
-use Rattle.std.proofs.Common.{◌≡◌, ℕ, ◌<◌, List, length, get_or, Option, Some, sym, ap, subst, ◌∙◌}
+use Rattle.std.proofs.Common.{◌≡◌, ℕ, ◌<◌, List, length, Some}
 use Rattle.std.specs.Prelude.{All, IfSome}
-use Rattle.hal_base.specs.ShelfCalls.{ShelfView, SameShelf}
+use Rattle.hal_base.specs.ShelfCalls.{ShelfView}
 use Rattle.keyed_sets.specs.declared.index.First.{First}
 use Rattle.keyed_sets.specs.declared.set.KeyedSet.{KeyedSet}
-use Rattle.keyed_sets.specs.Calls.{IsOpened, StaysOpen}
-use Rattle.keyed_sets.specs.Rule.{tables}
-use Rattle.keyed_sets.specs.Index.{firsts_of, empty_numbers}
+use Rattle.keyed_sets.specs.Calls.{IsOpened}
 use Rattle.keyed_sets.specs.Standing.{Stands}
 use Rattle.keyed_sets.proofs.Indexed.{stands_from, firsts_are}
 use Rattle.keyed_sets.proofs.Told.{where_told, told_at}
@@ -26,13 +24,3 @@ opened_from set seen firsts empty stands =
       firsts = λ pages is. firsts_are set.shape pages set.index.firsts.items set.index.empty.items (at pages is);
       empty = λ pages is. (at pages is).empty_pages;
     }
-
--- a shelf on which nothing has changed
-pub opened_same : (set : KeyedSet) {a b : ShelfView} → SameShelf a b → IsOpened set a → IsOpened set b
-opened_same set {a} {b} same o = record {
-  firsts_within = subst (λ (l : List ℕ). All (λ (first : First). first.page < length l) set.index.firsts.items) (sym (same.places set.set)) o.firsts_within;
-  empty_within = subst (λ (l : List ℕ). All (λ n. n < length l) set.index.empty.items) (sym (same.places set.set)) o.empty_within;
-  rule = λ pages is. o.rule pages (sym (same.pages set.set) ∙ is);
-  firsts = λ pages is. o.firsts pages (sym (same.pages set.set) ∙ is);
-  empty = λ pages is. o.empty pages (sym (same.pages set.set) ∙ is);
-}

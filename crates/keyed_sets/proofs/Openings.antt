@@ -247,14 +247,6 @@ taken_none table firsts lasts empty n taken is = record {
   none = ap (λ (l : List ℕ). l ++ n ∷ []) taken.none ∙ ap (λ (k : ℕ). empty_numbers 0 table ++ k ∷ []) (omega (arith, is)) ∙ sym (numbers_last 0 table);
 }
 
-pub taken_first : AreTaken [] [] [] []
-taken_first = record {
-  lawful = record { rise = λ n. tt; apart = λ m n other. apart_none [] [] refl };
-  index = record { starts = λ f c. absurd (nothing_there f c); all = λ n row c. absurd (nothing_there row c); rise = tt };
-  ends = tt;
-  none = refl;
-}
-
 pub split_from : (key : List ℕ) (firsts held : List First) (at : ℕ) → held ≡ firsts → at ≤ length held
     → (KeysRise (λ (first : First). first.key) held → AllWithin (λ (first : First). is_below key first.key ≡ false) held 0 at)
     → (KeysRise (λ (first : First). first.key) held → AllWithin (λ (first : First). is_below key first.key ≡ true) held at (length held))

@@ -6,7 +6,7 @@ use Rattle.std.proofs.lemmas.List.{length-append, length-take-le, length-drop, d
 use Rattle.std.proofs.lemmas.List.Concat.{flat_map-append}
 use Rattle.hal_base.specs.Pages.{SameHead}
 use Rattle.keyed_sets.specs.declared.row.RowShape.{RowShape}
-use Rattle.keyed_sets.specs.Layout.{Row, row_length, spelled_row, spelled, rows_from, rows_in, count_of, end_of, HasPlace, HasZeros, PutsRows}
+use Rattle.keyed_sets.specs.Layout.{Row, row_length, spelled_row, spelled, rows_from, rows_in, count_of, end_of, HasZeros, PutsRows}
 use Rattle.keyed_sets.proofs.Rows.{AreShaped, rows_read, rows_spelled, rows_shaped, length-spelled, length-rows_in}
 
 -- rows that are spelled behind a head that counts them

@@ -1,11 +1,9 @@
 -- A row put into its page, and the page where it goes.
 use Rattle.std.proofs.Common.{◌≡◌, ◌⊎◌, ℕ, zero, suc, ◌+◌, ◌-◌, ◌<◌, ◌≤◌, Bool, true, false, cond, List, [], ◌∷◌, length, get_or, take, drop, set, Some, inl, inr, refl, sym, ap, subst, ◌∙◌, arith}
 use Rattle.std.specs.Prelude.{Contains, ◌||◌, slice_get, insert}
-use Rattle.std.specs.List.{remove}
 use Rattle.std.specs.Option.{option_map}
 use Rattle.std.proofs.lemmas.Bool.{cases_order, or_left, or_right}
 use Rattle.std.proofs.lemmas.List.{get_or_default, length-append, length-take-le, length-drop}
-use Rattle.std.proofs.lemmas.List.Edits.{length-remove}
 use Rattle.keyed_sets.proofs.Rows.{length-rows_in}
 use Rattle.keyed_sets.proofs.Lookups.{nowhere, key_at_is, missing_at}
 use Rattle.std.proofs.lemmas.List.Elements.{Contains-get_or}
@@ -15,12 +13,12 @@ use Rattle.keyed_sets.specs.Layout.{Row, rows_in, count_of, is_below, place_of, 
 use Rattle.keyed_sets.specs.Map.{with_row}
 use Rattle.keyed_sets.specs.Places.{nearer, IsHome}
 use Rattle.keyed_sets.specs.Rule.{page_rows}
-use Rattle.keyed_sets.specs.Standing.{Apart, AllBelow, StartsWith, IsIndex}
+use Rattle.keyed_sets.specs.Standing.{AllBelow, StartsWith, IsIndex}
 use Rattle.keyed_sets.specs.Taken.{AreApart}
 use Rattle.keyed_sets.proofs.Keys.{below_both, below_false, below_upto, three_ways}
-use Rattle.keyed_sets.proofs.Maps.{Rows, row_behind, row_ahead, row_over, with_row_has}
+use Rattle.keyed_sets.proofs.Maps.{Rows, row_behind, row_ahead, row_over}
 use Rattle.keyed_sets.proofs.Members.{at_front, further, rise_at}
-use Rattle.keyed_sets.proofs.Tables.{first_row, apart_none}
+use Rattle.keyed_sets.proofs.Tables.{first_row}
 use Rattle.keyed_sets.proofs.Openings.{IsSplit, nothing_or, before_by_first}
 use Rattle.keyed_sets.proofs.Sets.{above_split}
 
@@ -122,18 +120,6 @@ near_by key (a ∷ rows) (b ∷ others) k starts (inr (Over above more)) = near_
 pub home_is : (table : List (List Row)) (firsts : List First) (key : List ℕ) (at home : ℕ) (p : First) → AreApart table → IsIndex table firsts → IsNear key firsts at home p → IsHome key table p.page
 home_is table firsts key at home p apart index near =
     inr (λ m other. near_by key (page_rows table p.page) (page_rows table m) p.key (index.starts p (home, near.within, near.is)) (beside_page table firsts key at home p apart index near m other))
-
--- a row of the key among the rows of its page stays apart from the other pages
-pub with_row_clear : (key : List ℕ) (row : Row) (p q rows : List Row) → row.0 ≡ key → Rows rows → ((x : Row) → Contains rows x → Contains p x) → ((q ≡ []) ⊎ Beside key p q) → Apart q (with_row row rows)
-with_row_clear key row p q rows is rise some (inl none) = apart_none q (with_row row rows) none
-with_row_clear key row p q rows is rise some (inr (Under j begins under below less)) = inl (λ x y c d. elim (with_row_has row rows rise y d) [
-  | inl same ↦ ap (λ (r : Row). is_below (x.0) (r.0)) same ∙ ap (is_below (x.0)) is ∙ less x c
-  | inr old ↦ below x y c (some y old.0)
-])
-with_row_clear key row p q rows is rise some (inr (Over above more)) = inr (λ x y c d. elim (with_row_has row rows rise x c) [
-  | inl same ↦ ap (λ (r : Row). is_below (r.0) (y.0)) same ∙ ap (λ (k : List ℕ). is_below k (y.0)) is ∙ more y d
-  | inr old ↦ above x y (some x old.0) d
-])
 
 pub sets_over : (shape : RowShape) (old new : List ℕ) (at : ℕ) (row : Row) → Rows (rows_in shape old) → at < count_of old → option_map (λ (r : Row). r.0) (slice_get (rows_in shape old) at) ≡ Some (row.0)
     → PutsRows shape old new (set (rows_in shape old) at row) → PutsRows shape old new (with_row row (rows_in shape old))

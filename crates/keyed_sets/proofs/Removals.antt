@@ -1,6 +1,6 @@
 -- What a set and its pages are after a row was taken away, where they are told.
-use Rattle.std.proofs.Common.{◌≡◌, ℕ, ◌+◌, ◌<◌, ◌≤◌, Bool, true, false, cond, List, [], ◌∷◌, length, get_or, take, drop, set, map, ltb, Option, Some, None, inl, inr, refl, sym, ap, subst, ◌∙◌, arith}
-use Rattle.std.specs.Prelude.{Contains, IfSome, IsSomeAnd, slice_get, All, is_some}
+use Rattle.std.proofs.Common.{◌≡◌, ℕ, ◌<◌, Bool, true, false, cond, List, [], ◌∷◌, length, get_or, drop, set, map, ltb, Option, Some, None, inl, inr, refl, sym, ap, subst, ◌∙◌, arith}
+use Rattle.std.specs.Prelude.{Contains, IfSome, IsSomeAnd, All, is_some}
 use Rattle.std.specs.List.{remove}
 use Rattle.std.specs.Option.{option_map}
 use Rattle.std.proofs.lemmas.Bool.{cases_Bool, cases_eq}
@@ -9,11 +9,10 @@ use Rattle.std.proofs.lemmas.List.{length-map}
 use Rattle.std.proofs.lemmas.List.Elements.{Contains-get_or, All-cons, All-head, All-tail}
 use Rattle.hal_base.specs.ShelfCalls.{ShelfView}
 use Rattle.keyed_sets.specs.declared.index.First.{First}
-use Rattle.keyed_sets.specs.declared.row.RowShape.{RowShape}
 use Rattle.keyed_sets.specs.declared.seek.Spot.{Spot}
 use Rattle.keyed_sets.specs.declared.set.KeyedSet.{KeyedSet}
 use Rattle.keyed_sets.specs.Calls.{IsOpened, Removes}
-use Rattle.keyed_sets.specs.Changes.{placed, Changes}
+use Rattle.keyed_sets.specs.Changes.{placed}
 use Rattle.keyed_sets.specs.Layout.{Row, rows_in, rows_from, count_of, is_below, PutsRows}
 use Rattle.keyed_sets.specs.Map.{lookup, rows_of, without_row}
 use Rattle.keyed_sets.specs.Rule.{tables, page_rows}
@@ -26,7 +25,7 @@ use Rattle.keyed_sets.proofs.Maps.{lookup_is, same_rows, without_row_has, withou
 use Rattle.keyed_sets.proofs.Rows.{length-rows_in}
 use Rattle.keyed_sets.proofs.Tables.{first_row, from_first}
 use Rattle.keyed_sets.proofs.Openings.{before_by_first}
-use Rattle.keyed_sets.proofs.Sets.{IsIn, lawful, row_in, in_rows, rows_rise, one_place}
+use Rattle.keyed_sets.proofs.Sets.{IsIn, lawful, in_rows, rows_rise, one_place}
 use Rattle.keyed_sets.proofs.Told.{where_told, told_at}
 use Rattle.keyed_sets.proofs.Lookups.{nowhere, key_at_is}
 use Rattle.keyed_sets.proofs.Placing.{placed_or, placed_here, placed_other, apart_fewer, rows_without, front_below, back_above, in_back}

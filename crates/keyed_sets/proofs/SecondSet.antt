@@ -1,6 +1,6 @@
 -- A put that needs a second page, over the set as a whole: a page without rows was made and read, and then one page or two were put back.
-use Rattle.std.proofs.Common.{◌≡◌, ◌⊎◌, ℕ, zero, suc, ◌+◌, ◌<◌, ◌≤◌, List, [], ◌∷◌, ◌++◌, length, get_or, take, drop, set, Option, Some, None, Result, Ok, Err, inl, inr, refl, sym, ap, subst, ◌∙◌, arith}
-use Rattle.std.specs.Prelude.{All, IfSome, IsSomeAnd, IfErr, OnErr, IsErrOf, insert, slice_get}
+use Rattle.std.proofs.Common.{◌≡◌, ◌⊎◌, ℕ, zero, suc, ◌+◌, ◌<◌, ◌≤◌, List, [], ◌∷◌, ◌++◌, length, set, Option, Some, None, Result, Ok, Err, inl, inr, refl, sym, ap, subst, ◌∙◌, arith}
+use Rattle.std.specs.Prelude.{IfSome, IsSomeAnd, IfErr, OnErr, IsErrOf, insert, slice_get}
 use Rattle.std.specs.List.{remove}
 use Rattle.std.specs.Option.{option_map}
 use Rattle.std.proofs.lemmas.Option.{slice_get-get_or, get_or_from_slice_get}
@@ -21,9 +21,9 @@ use Rattle.keyed_sets.specs.declared.seek.Spot.{Spot}
 use Rattle.keyed_sets.specs.declared.set.KeyedSet.{KeyedSet}
 use Rattle.keyed_sets.specs.Calls.{IsOpened, PutFails, PutsIn, Grows}
 use Rattle.keyed_sets.specs.Changes.{HasSpare, placed}
-use Rattle.keyed_sets.specs.Layout.{Row, rows_in, count_of, end_of, row_length, place_of, HasPlace, PutsRows}
+use Rattle.keyed_sets.specs.Layout.{Row, rows_in, count_of, end_of, row_length, HasPlace, PutsRows}
 use Rattle.keyed_sets.specs.Places.{PutLeaves, AsBefore, Halved, NeedsPage, kept_rows}
-use Rattle.keyed_sets.specs.Rule.{Rise, capacity, tables, page_rows}
+use Rattle.keyed_sets.specs.Rule.{capacity, tables}
 use Rattle.keyed_sets.specs.Goes.{IsBegun, IsFull}
 use Rattle.keyed_sets.specs.PageFacts.{Split}
 use Rattle.keyed_sets.specs.Reading.{IsSought, home_page}
@@ -31,13 +31,13 @@ use Rattle.keyed_sets.specs.Standing.{StartsWith, Stands, no_first}
 use Rattle.keyed_sets.specs.Writing.{first_at, number_at, CanHalve, WritesHalves, LeavesHalf, Nothing, Half, MakesPage, Had, Made}
 use Rattle.keyed_sets.proofs.Begins.{BegunTold, some_capacity, put_within, fewer_within}
 use Rattle.keyed_sets.proofs.Halves.{apart_from, kept_part, kept_table}
-use Rattle.keyed_sets.proofs.Heads.{Kept, heads_told, heads_same, heads_put, slice_set_other}
+use Rattle.keyed_sets.proofs.Heads.{Kept, heads_told, heads_put, slice_set_other}
 use Rattle.keyed_sets.proofs.OpenSets.{opened_stands}
 use Rattle.keyed_sets.proofs.Removals.{staged_told}
 use Rattle.keyed_sets.proofs.Shares.{HalvedTold, halved_at, halved_told, halved_index, split_heads}
 use Rattle.keyed_sets.proofs.Spared.{full_told, split_puts}
 use Rattle.keyed_sets.proofs.Splits.{part_stands}
-use Rattle.keyed_sets.proofs.Spots.{At, at_told, own_default}
+use Rattle.keyed_sets.proofs.Spots.{at_told, own_default}
 use Rattle.keyed_sets.proofs.Steps.{Spared, opened_as}
 use Rattle.keyed_sets.proofs.Told.{where_told, told_at, told_both}
 

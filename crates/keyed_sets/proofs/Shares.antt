@@ -1,5 +1,5 @@
 -- A split page's halves with the row in its place, and the pages where they are told.
-use Rattle.std.proofs.Common.{◌≡◌, ℕ, zero, suc, ◌+◌, ◌-◌, ◌/◌, ◌<◌, ◌≤◌, Bool, true, false, cond, not, List, [], ◌∷◌, length, get_or, take, drop, set, Option, Some, None, inl, inr, refl, sym, ap, subst, ◌∙◌, arith}
+use Rattle.std.proofs.Common.{◌≡◌, ℕ, zero, suc, ◌+◌, ◌-◌, ◌<◌, ◌≤◌, Bool, true, false, cond, not, List, [], ◌∷◌, length, get_or, take, drop, set, Option, Some, None, inl, inr, refl, sym, ap, subst, ◌∙◌, arith}
 use Rattle.std.specs.Prelude.{Contains, IfSome, IsSomeAnd, slice_get, insert, is_some}
 use Rattle.std.specs.List.{remove}
 use Rattle.std.specs.Option.{option_map}
@@ -12,7 +12,7 @@ use Rattle.hal_base.specs.Pages.{SameHead}
 use Rattle.keyed_sets.specs.declared.row.RowShape.{RowShape}
 use Rattle.keyed_sets.specs.declared.index.First.{First}
 use Rattle.keyed_sets.specs.Changes.{placed}
-use Rattle.keyed_sets.specs.Layout.{Row, rows_in, count_of, is_below, place_of, PutsRows}
+use Rattle.keyed_sets.specs.Layout.{Row, rows_in, is_below, place_of, PutsRows}
 use Rattle.keyed_sets.specs.Map.{rows_of, with_row}
 use Rattle.keyed_sets.specs.Places.{Takes, lower_half, upper_half, begins_upto, kept_rows, moved_rows, first_or, second_page}
 use Rattle.keyed_sets.specs.Rule.{Rise, capacity, tables, page_rows}
@@ -26,7 +26,7 @@ use Rattle.keyed_sets.proofs.Rows.{length-rows_in}
 use Rattle.keyed_sets.proofs.Lookups.{nowhere, page_is, page_rises}
 use Rattle.keyed_sets.proofs.Putting.{insert_is}
 use Rattle.keyed_sets.proofs.Adding.{lower_rises, upper_rises, in_lower, in_upper}
-use Rattle.keyed_sets.proofs.Halves.{Halved, halved_stands, halved_table, halved_rows, read_other, apart_from}
+use Rattle.keyed_sets.proofs.Halves.{Halved, halved_stands, halved_table, halved_rows}
 
 place_take : (key : List ℕ) (rows : List Row) (n : ℕ) → place_of key rows ≤ n → place_of key (take n rows) ≡ place_of key rows
 place_take key [] zero le = refl

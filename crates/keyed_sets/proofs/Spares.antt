@@ -1,15 +1,11 @@
 -- A page without rows, kept at hand or added to the set.
-use Rattle.std.proofs.Common.{◌≡◌, ℕ, zero, suc, ◌+◌, ◌-◌, ◌<◌, ◌≤◌, List, [], ◌∷◌, ◌++◌, length, get_or, take, drop, replicate, set, Option, Some, None, inl, inr, refl, sym, ap, subst, ◌∙◌, append_assoc, arith}
-use Rattle.std.specs.Prelude.{IfSome, IsSomeAnd, slice_get}
+use Rattle.std.proofs.Common.{◌≡◌, ℕ, ◌-◌, ◌≤◌, List, [], ◌∷◌, ◌++◌, length, take, drop, replicate, set, inl, inr, refl, sym, ap, subst, ◌∙◌, append_assoc, arith}
 use Rattle.std.specs.Int.{w16, to_be_bytes, from_be_bytes}
-use Rattle.std.specs.Option.{option_map}
 use Rattle.std.proofs.lemmas.List.{length-append, length-map, drop_at, drop-drop, map-append, replicate-append-replicate}
-use Rattle.std.proofs.lemmas.List.Elements.{All-weaker}
 use Rattle.hal_base.specs.declared.pages.SetId.{SetId}
 use Rattle.hal_base.specs.Pages.{empty_page, page_head}
 use Rattle.keyed_sets.specs.declared.row.RowShape.{RowShape}
 use Rattle.keyed_sets.specs.declared.index.First.{First}
-use Rattle.keyed_sets.specs.Changes.{HasSpare}
 use Rattle.keyed_sets.specs.Layout.{Row, rows_in, rows_from, count_of, end_of}
 use Rattle.keyed_sets.specs.Rule.{IsRowPage, rising_count, tables, page_rows}
 use Rattle.keyed_sets.specs.Standing.{StartsWith, IsIndex, Stands}
@@ -20,9 +16,6 @@ use Rattle.keyed_sets.proofs.Tables.{page_old, row_within, page_or, apart_turned
 use Rattle.keyed_sets.proofs.Openings.{apart_more, numbers_last}
 use Rattle.keyed_sets.proofs.PageByPage.{rule_more}
 use Rattle.keyed_sets.proofs.Sets.{lawful}
-use Rattle.keyed_sets.proofs.Rows.{length-rows_in}
-use Rattle.keyed_sets.proofs.Lookups.{page_is}
-use Rattle.keyed_sets.proofs.Adding.{nothing_at}
 
 two : (n : ℕ) → length (to_be_bytes w16 n) ≡ 2
 two n = refl

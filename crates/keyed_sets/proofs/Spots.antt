@@ -1,6 +1,6 @@
 -- A key's spot in a set whose pages are told: what is found there, and whether the page takes a row.
-use Rattle.std.proofs.Common.{◌≡◌, ◌⊎◌, ℕ, ◌+◌, ◌<◌, ◌≤◌, Bool, true, false, cond, List, [], ◌∷◌, length, get_or, Option, Some, None, inl, inr, refl, sym, ap, subst, ◌∙◌, arith}
-use Rattle.std.specs.Prelude.{Contains, IfSome, slice_get, is_some}
+use Rattle.std.proofs.Common.{◌≡◌, ℕ, ◌+◌, ◌<◌, ◌≤◌, Bool, true, false, cond, List, [], ◌∷◌, length, get_or, Option, Some, None, inl, inr, refl, sym, ap, subst, ◌∙◌, arith}
+use Rattle.std.specs.Prelude.{Contains, IfSome, slice_get}
 use Rattle.std.specs.Option.{option_map}
 use Rattle.std.proofs.lemmas.Bool.{both_ways, cases_Bool, cases_lt, cases_eq}
 use Rattle.std.proofs.lemmas.Option.{slice_get-get_or}
@@ -19,7 +19,7 @@ use Rattle.keyed_sets.specs.Index.{empty_numbers}
 use Rattle.keyed_sets.specs.Goes.{GoesTo, IsBegun, IsFull}
 use Rattle.keyed_sets.specs.PageFacts.{HasKeyAt}
 use Rattle.keyed_sets.specs.Reading.{IsSought, home_page}
-use Rattle.keyed_sets.specs.Standing.{Stands, StartsWith, no_first}
+use Rattle.keyed_sets.specs.Standing.{Stands, no_first}
 use Rattle.keyed_sets.specs.Writing.{first_at}
 use Rattle.keyed_sets.proofs.Keys.{below_itself}
 use Rattle.keyed_sets.proofs.Maps.{Rows, lookup_is, lookup_none}

@@ -1,21 +1,20 @@
 -- Steps of a put and of a removal, as the private functions say them, over the set as a whole.
-use Rattle.std.proofs.Common.{◌≡◌, ◌⊎◌, ℕ, zero, suc, ◌+◌, ◌<◌, ◌≤◌, true, false, List, [], ◌∷◌, ◌++◌, length, get_or, take, drop, set, Option, Some, None, Result, Ok, Err, inl, inr, refl, sym, ap, subst, ◌∙◌, arith}
-use Rattle.std.specs.Prelude.{All, IfSome, IsSomeAnd, OnErr, IfErr, IsErrOf, OnOk, insert, slice_get}
-use Rattle.std.specs.List.{remove}
+use Rattle.std.proofs.Common.{◌≡◌, ℕ, ◌+◌, ◌<◌, ◌≤◌, List, [], ◌∷◌, ◌++◌, length, take, set, Option, Some, None, Result, Ok, Err, inl, inr, refl, sym, ap, subst, ◌∙◌, arith}
+use Rattle.std.specs.Prelude.{All, IfSome, IsSomeAnd, OnErr, IfErr, IsErrOf, OnOk, slice_get}
 use Rattle.std.specs.Option.{option_map}
 use Rattle.std.proofs.lemmas.List.{length_push}
 use Rattle.std.proofs.lemmas.List.Elements.{All-weaker, All-cons}
 use Rattle.hal_base.specs.declared.outcome.PageFault.{PageFault}
 use Rattle.hal_base.specs.declared.outcome.PageFault.TheVariants.{NoRoom}
-use Rattle.hal_base.specs.Pages.{SameHead, empty_page}
+use Rattle.hal_base.specs.Pages.{empty_page}
 use Rattle.hal_base.specs.ShelfCalls.{ShelfView, SameShelf}
 use Rattle.keyed_sets.specs.declared.index.First.{First}
 use Rattle.keyed_sets.specs.declared.index.Index.{Index}
 use Rattle.keyed_sets.specs.declared.set.KeyedSet.{KeyedSet}
-use Rattle.keyed_sets.specs.Calls.{IsOpened, StaysOpen, PutFails}
+use Rattle.keyed_sets.specs.Calls.{IsOpened, PutFails}
 use Rattle.keyed_sets.specs.Changes.{HasSpare}
 use Rattle.keyed_sets.specs.Layout.{Row}
-use Rattle.keyed_sets.specs.Places.{PutLeaves, AsBefore, NeedsPage}
+use Rattle.keyed_sets.specs.Places.{PutLeaves, AsBefore}
 use Rattle.keyed_sets.specs.Rule.{capacity, tables}
 use Rattle.keyed_sets.specs.Standing.{Stands}
 use Rattle.keyed_sets.specs.Writing.{MakesPage, Had, Made}

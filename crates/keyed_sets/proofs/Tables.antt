@@ -37,9 +37,6 @@ page_or table rows n row c = elim (cases_order n (length table)) [
   | inr (inr gt) ↦ absurd (nothing_there row (subst (λ (l : List Row). Contains l row) (page_past (table ++ rows ∷ []) n (omega (arith, length_push table rows))) c))
 ]
 
-pub page_kept : (table : List (List Row)) (rows : List Row) (n : ℕ) (row : Row) → Contains (page_rows table n) row → Contains (page_rows (table ++ rows ∷ []) n) row
-page_kept table rows n row c = subst (λ (l : List Row). Contains l row) (sym (page_old table rows n (row_within table n row c))) c
-
 pub apart_turned : (a b : List Row) → Apart a b → Apart b a
 apart_turned a b (inl below) = inr below
 apart_turned a b (inr above) = inl above

@@ -1,6 +1,6 @@
 -- What is claimed of pages where they are told, and shelves that were only read.
-use Rattle.std.proofs.Common.{◌≡◌, ℕ, Bool, true, false, not, List, Option, Some, None, Result, Ok, Err, refl, subst, ◌∙◌}
-use Rattle.std.specs.Prelude.{IfSome, OnOk, OnErr, is_err, ⊤}
+use Rattle.std.proofs.Common.{◌≡◌, Bool, true, false, not, Option, Some, None, Result, Ok, Err, refl}
+use Rattle.std.specs.Prelude.{IfSome, OnErr, ⊤}
 use Rattle.std.proofs.lemmas.Option.{MatchOption-at_some}
 
 pub where_told : {X : Type 0} (o : Option X) (P : X → Type 0) → ((x : X) → o ≡ Some x → P x) → IfSome o P
@@ -11,13 +11,6 @@ pub told_both : {X : Type 0} (o : Option X) (P Q : X → Type 0) → IfSome o P 
 told_both None P Q first then = tt
 told_both (Some x) P Q first then = then x refl first
 
-pub ok_of : {T E P : Type 0} (r : Result T E) → is_err r ≡ false → OnOk r P → P
-ok_of (Ok t) fine holds = holds
-ok_of (Err e) fine holds = cc
-
-pub told_as : {X : Type 0} (a b : Option X) (P : X → Type 0) → b ≡ a → IfSome b P → IfSome a P
-told_as {X} a b P same holds = subst (λ (o : Option X). IfSome o P) same holds
-
 pub ok_not_err : {T E : Type 0} (r : Result T E) (t : T) (e : E) → r ≡ Ok t → r ≡ Err e → ⊥
 ok_not_err r t e ok err = cc
 
@@ -27,13 +20,6 @@ told_at o x P is holds = MatchOption-at_some ⊤ P x is holds
 pub any_err : {T E P : Type 0} (r : Result T E) → P → OnErr r P
 any_err (Ok t) holds = tt
 any_err (Err e) holds = holds
-
-pub all_ok : {T E A B C D : Type 0} (r : Result T E) → OnOk r A → OnOk r B → OnOk r C → (A → B → C → D) → OnOk r D
-all_ok (Ok t) a b c then = then a b c
-all_ok (Err e) a b c then = tt
-
-pub never_err : {T E P : Type 0} (r : Result T E) (e : E) → (r ≡ Err e → ⊥) → r ≡ Err e → P
-never_err r e never is = absurd (never is)
 
 -- one fault, in two results
 pub one_fault : {T U E : Type 0} (r : Result T E) (s : Result U E) (x e fault : E) → r ≡ Err x → s ≡ Err e → e ≡ x → (r ≡ Err fault → s ≡ Err fault) × (s ≡ Err fault → r ≡ Err fault)

@@ -1,7 +1,5 @@
 -- What a call that changes rows makes of the pages of a set, and leaves of the shelf.
 use Rattle.std.specs.Prelude.{◌≡◌, ◌⊎◌, ℕ, ◌+◌, List, [], ◌∷◌, ◌++◌, Option, take, drop, IfSome, IsSomeAnd}
-use Rattle.hal_base.specs.Pages.{SameSets, SameOthers}
-use Rattle.hal_base.specs.declared.pages.SetId.{SetId}
 use Rattle.keyed_sets.specs.declared.row.RowShape.{RowShape}
 use Rattle.keyed_sets.specs.Layout.{Row}
 use Rattle.keyed_sets.specs.Map.{rows_of}

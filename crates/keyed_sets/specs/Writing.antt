@@ -1,5 +1,5 @@
 -- What the private functions that put pages back do to the index and to the pages of a set.
-use Rattle.std.specs.Prelude.{◌≡◌, ℕ, ◌+◌, ◌<◌, List, [], ◌∷◌, ◌++◌, length, insert, slice_get, slice_set, slice_index_or, IfSome, Option}
+use Rattle.std.specs.Prelude.{◌≡◌, ℕ, ◌+◌, ◌<◌, List, [], ◌∷◌, ◌++◌, length, insert, slice_get, slice_set, slice_index_or, IfSome}
 use Rattle.std.specs.List.{remove}
 use Rattle.std.specs.Option.{option_map}
 use Rattle.hal_base.specs.Pages.{SameHead, empty_page}

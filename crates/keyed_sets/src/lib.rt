@@ -7,7 +7,8 @@
 //!
 //! The calls on one page take the page as it stands, and move no row that needn't move. A `KeyedSet` is the set over the
 //! pages of a shelf: no two pages' ranges of keys overlap, so a key belongs to one page, which is found by the first
-//! keys that are kept in memory.
+//! keys that are kept in memory. `seek.rt` finds a key; `put.rt` has the three ways of a put, `page_edits.rt` what they do to one
+//! page, `write.rt` what the index keeps of a page that is put back.
 #![tactic(auto)]
 
 mod check;

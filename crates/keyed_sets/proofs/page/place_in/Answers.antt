@@ -1,6 +1,6 @@
-use Rattle.std.proofs.Common.{◌+◌, ◌-◌, ◌/◌, ◌<◌, ◌≤◌, List, length, sym, ◌∙◌, arith}
+use Rattle.std.proofs.Common.{◌+◌, ◌-◌, ◌/◌, ◌<◌, List, length, sym, ◌∙◌, arith}
 use Rattle.std.proofs.lemmas.List.Sums.{prefix_len-le-length}
-use Rattle.keyed_sets.specs.Layout.{Row, rows_in, is_below, count_of}
+use Rattle.keyed_sets.specs.Layout.{Row, rows_in, is_below}
 use Rattle.keyed_sets.proofs.Rows.{length-rows_in}
 use Rattle.keyed_sets.proofs.Places.{place_above, place_upto}
 use Rattle.keyed_sets.proofs.page.place_in.Goals as goal

@@ -1,4 +1,4 @@
-use Rattle.std.proofs.Common.{◌≡◌, ◌∙◌, ◌<◌, ◌≤◌, ◌+◌, ◌-◌, ◌/◌, ℕ, List, length, take, drop, sym, ap, subst, arith}
+use Rattle.std.proofs.Common.{◌≡◌, ◌∙◌, ◌<◌, ◌≤◌, ◌+◌, ◌-◌, ◌/◌, ℕ, List, take, drop, sym, ap, subst, arith}
 use Rattle.std.specs.Prelude.{insert}
 use Rattle.keyed_sets.specs.Layout.{Row, rows_in, count_of, PutsRows}
 use Rattle.keyed_sets.specs.PageFacts.{middle}

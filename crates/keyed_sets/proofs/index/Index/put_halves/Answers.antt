@@ -1,4 +1,4 @@
-use Rattle.std.proofs.Common.{◌≡◌, ◌∙◌, ◌+◌, ◌<◌, ℕ, List, Option, Some, Err, Bool, cond, suc, set, length, refl, sym, ap, subst, arith}
+use Rattle.std.proofs.Common.{◌≡◌, ◌∙◌, ◌+◌, ℕ, List, Err, Bool, cond, set, sym, ap, subst}
 use Rattle.std.specs.Prelude.{IfSome, slice_get, insert}
 use Rattle.std.specs.List.{remove}
 use Rattle.std.specs.Option.{option_map}

@@ -1,24 +1,21 @@
-use Rattle.std.proofs.Common.{◌≡◌, ◌∙◌, ◌<◌, ◌+◌, ◌++◌, ◌∷◌, [], ℕ, List, length, inl, refl, sym, ap, subst, Err, arith}
-use Rattle.std.specs.Prelude.{IfSome, IsSomeAnd, slice_get, insert, All}
+use Rattle.std.proofs.Common.{◌≡◌, ◌∙◌, ◌<◌, ◌++◌, ◌∷◌, [], ℕ, List, length, inl, refl, sym, ap, subst, Err}
+use Rattle.std.specs.Prelude.{insert}
 use Rattle.std.specs.List.{remove}
 use Rattle.std.proofs.lemmas.Option.{slice_get-get_or}
 use Rattle.std.proofs.lemmas.Result.{on_ok_weaker, on_err_weaker, err_from_is_err_and}
 use Rattle.hal_base.specs.declared.outcome.PageFault.TheVariants.{NoRoom}
 use Rattle.hal_base.proofs.ShelfLemmas.{keeps_as, same_then, same_changed, reads_as, reads_changes, changes_then, changes_grows}
 use Rattle.keyed_sets.specs.declared.index.First.{First}
-use Rattle.keyed_sets.specs.Layout.{Row, rows_in, count_of}
+use Rattle.keyed_sets.specs.Layout.{Row, count_of}
 use Rattle.keyed_sets.specs.Places.{NeedsPage}
 use Rattle.keyed_sets.specs.Rule.{capacity, tables}
 use Rattle.keyed_sets.specs.Goes.{IsBegun}
-use Rattle.keyed_sets.specs.Standing.{Stands}
 use Rattle.keyed_sets.specs.Writing.{number_at}
 use Rattle.keyed_sets.proofs.Begins.{begun_told, begun_index, room_first, put_within, fewer_within}
 use Rattle.keyed_sets.proofs.Heads.{heads_told, heads_unchanged}
-use Rattle.keyed_sets.proofs.OpenSets.{opened_stands}
-use Rattle.keyed_sets.proofs.Putting.{some_put}
 use Rattle.keyed_sets.proofs.Spots.{begun_needs}
 use Rattle.keyed_sets.proofs.SecondSet.{insert_last, opened_spared, grows_by, left_spared, fails_spared, fails_made, begun_of, begun_heads}
-use Rattle.keyed_sets.proofs.Steps.{opened_as, opened_still, either, left_none, spared}
+use Rattle.keyed_sets.proofs.Steps.{opened_as, either, left_none, spared}
 use Rattle.keyed_sets.proofs.Told.{told_both, any_err}
 use Rattle.keyed_sets.proofs.set.KeyedSet.begin_page.Goals as goal
 

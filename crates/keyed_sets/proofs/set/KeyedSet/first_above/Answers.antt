@@ -1,4 +1,4 @@
-use Rattle.std.proofs.Common.{◌≡◌, ◌-◌, sym, subst, Option, refl, arith}
+use Rattle.std.proofs.Common.{◌-◌, sym, subst, Option, refl, arith}
 use Rattle.std.proofs.lemmas.Result.{IfOk-weaker}
 use Rattle.std.specs.Prelude.{Some}
 use Rattle.keyed_sets.specs.Layout.{Row}

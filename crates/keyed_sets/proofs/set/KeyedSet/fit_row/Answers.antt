@@ -1,4 +1,4 @@
-use Rattle.std.proofs.Common.{◌≡◌, ◌∙◌, ◌<◌, ℕ, List, length, set, refl, ap}
+use Rattle.std.proofs.Common.{◌<◌, ℕ, List, length, set, refl, ap}
 use Rattle.std.proofs.lemmas.List.Elements.{All-set}
 use Rattle.std.proofs.lemmas.Result.{on_ok_weaker, on_err_weaker}
 use Rattle.keyed_sets.specs.declared.index.First.{First}

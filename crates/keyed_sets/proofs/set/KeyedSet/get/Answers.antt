@@ -1,7 +1,4 @@
-use Rattle.std.proofs.Common.{◌≡◌, ◌∙◌, cond, Option, None, sym}
-use Rattle.std.specs.Prelude.{slice_get}
-use Rattle.std.specs.Option.{option_map}
-use Rattle.keyed_sets.specs.Layout.{Row, rows_in}
+use Rattle.std.proofs.Common.{◌≡◌, ◌∙◌}
 use Rattle.keyed_sets.specs.Map.{lookup, rows_of}
 use Rattle.keyed_sets.proofs.Spots.{at_told, found_at, nothing_found}
 use Rattle.keyed_sets.proofs.Told.{where_told}

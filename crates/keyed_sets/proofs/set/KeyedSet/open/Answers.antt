@@ -1,9 +1,9 @@
-use Rattle.std.proofs.Common.{◌≡◌, ◌∙◌, ◌+◌, ◌<◌, take, sym, ap, subst, Err, Some, length, List, ℕ, arith}
+use Rattle.std.proofs.Common.{◌≡◌, ◌∙◌, ◌+◌, ◌<◌, take, sym, ap, subst, Err, length, List, ℕ, arith}
 use Rattle.std.specs.Prelude.{IfSome, All}
 use Rattle.std.proofs.lemmas.Result.{err_from_is_err_and}
 use Rattle.std.proofs.lemmas.List.{take_all}
 use Rattle.hal_base.specs.declared.outcome.StoreFault.TheVariants.{BadTile, Failed}
-use Rattle.hal_base.proofs.ShelfLemmas.{same_none, reads_then, reads_more, reads_as}
+use Rattle.hal_base.proofs.ShelfLemmas.{reads_then, reads_more, reads_as}
 use Rattle.keyed_sets.specs.declared.index.First.{First}
 use Rattle.keyed_sets.specs.declared.row.RowShape.{RowShape}
 use Rattle.keyed_sets.specs.Rule.{BreaksAt}

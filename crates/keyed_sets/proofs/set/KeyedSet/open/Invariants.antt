@@ -1,4 +1,4 @@
-use Rattle.std.proofs.Common.{◌≡◌, ◌≤◌, ◌<◌, length, take}
+use Rattle.std.proofs.Common.{◌≡◌, ◌<◌, length, take}
 use Rattle.std.specs.Prelude.{All, IfSome, IsTrue}
 use Rattle.hal_base.specs.ShelfCalls.{OnlyReads}
 use Rattle.keyed_sets.specs.declared.index.First.{First}

@@ -1,10 +1,9 @@
-use Rattle.std.proofs.Common.{◌≡◌, ◌∙◌, ◌+◌, ℕ, List, Some, length, inl, sym, subst}
+use Rattle.std.proofs.Common.{◌≡◌, ◌∙◌, ℕ, List, Some, inl, sym, subst}
 use Rattle.std.specs.Prelude.{IfSome}
 use Rattle.std.proofs.lemmas.Bool.{both_ways}
 use Rattle.std.proofs.lemmas.Result.{err_from_is_err_and}
 use Rattle.hal_base.specs.declared.outcome.PageFault.TheVariants.{Failed}
 use Rattle.hal_base.proofs.ShelfLemmas.{reads_as, reads_changes, changes_grows}
-use Rattle.keyed_sets.specs.Layout.{Row}
 use Rattle.keyed_sets.specs.Places.{HasNoRows}
 use Rattle.keyed_sets.specs.Rule.{capacity, tables}
 use Rattle.keyed_sets.specs.Goes.{IsBegun, IsFull}

@@ -1,5 +1,4 @@
-use Rattle.std.proofs.Common.{◌≡◌, ◌∙◌, ◌+◌, ◌<◌, ℕ, List, length, inl, refl, sym, ap, Err}
-use Rattle.std.specs.Prelude.{IfSome}
+use Rattle.std.proofs.Common.{◌≡◌, ◌∙◌, inl, refl, sym, Err}
 use Rattle.std.proofs.lemmas.Result.{on_ok_weaker, on_err_weaker, err_from_is_err_and}
 use Rattle.hal_base.specs.declared.outcome.PageFault.TheVariants.{NoRoom}
 use Rattle.hal_base.proofs.ShelfLemmas.{keeps_as, same_changed, reads_as, reads_changes, changes_then, changes_grows}
