@@ -21,7 +21,8 @@ pub record IsEntryOf (types : List SegType) (index : IndexDef) (p : List Row × 
 
 -- each row of the source type has one entry, and there are no others
 abbrev pub EntriesAreOfSources : Type 0
-EntriesAreOfSources = (schema : Schema) (rows : List Row) (place : ℕ) (index : IndexDef) → IsTrue (is_forest schema rows) → slice_get schema.indexes place ≡ Some index
+EntriesAreOfSources = (schema : Schema) (rows : List Row) (place : ℕ) (index : IndexDef) → IsTrue (is_forest schema rows)
+    → slice_get schema.indexes place ≡ Some index
     → AllZip (IsEntryOf schema.types index) (filter (λ p. p.1.code == index.source) (paths_of schema.types rows)) (entries_by_row schema.types index (paths_of schema.types rows))
 
 -- the entries of an index are those, each as often, and their keys never fall

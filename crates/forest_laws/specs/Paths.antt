@@ -20,7 +20,8 @@ path_by_parents rows row = parents_within row.code rows row
 
 -- in a forest the path by levels is the path by parents
 abbrev pub PathsAreByParents : Type 0
-PathsAreByParents = (schema : Schema) (rows : List Row) → IsTrue (is_forest schema rows) → paths_of schema.types rows ≡ map (λ row. (path_by_parents rows row, row)) rows
+PathsAreByParents = (schema : Schema) (rows : List Row) → IsTrue (is_forest schema rows)
+    → paths_of schema.types rows ≡ map (λ row. (path_by_parents rows row, row)) rows
 
 -- a path begins with a row of the root type and ends at its row, and its codes are the row's type and those above it
 abbrev pub PathsAreAncestries : Type 0
@@ -44,4 +45,5 @@ PathsBeginAnew X = (level : X → ℕ) (path : List X) (root : X) (behind : List
 
 -- the paths along two lists, one behind the other
 abbrev pub PathsAppend : Type 0 → Type 0
-PathsAppend X = (level : X → ℕ) (path front back : List X) → with_paths level path (front ++ back) ≡ with_paths level path front ++ with_paths level (path_after level path front) back
+PathsAppend X = (level : X → ℕ) (path front back : List X)
+    → with_paths level path (front ++ back) ≡ with_paths level path front ++ with_paths level (path_after level path front) back

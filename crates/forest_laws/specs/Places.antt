@@ -37,11 +37,15 @@ pub record IsBehind (part rows : List Row) (new : Row) (result : List Row) : Typ
   pub whole : rows ≡ front ++ (part ++ back)
   pub placed : result ≡ front ++ (part ++ new ∷ back)
 
--- directly behind the span of the last twin that must stand before; where there is none, behind the parent and the spans of its children of lower code, or at the front for a root
+-- directly behind the span of the last twin that must stand before;
+-- where there is none, behind the parent and the spans of its children of lower code, or at the front for a root
 pub record IsByRule (schema : Schema) (rows : List Row) (new : Row) : Type 0 where
-  pub behind_twin : (before : List Row) (last : Row) → earlier_twins schema rows new ≡ before ++ last ∷ [] → IsBehind (span_of schema.types rows last.name) rows new (inserted schema rows new)
-  pub behind_parent : (above : Row) → earlier_twins schema rows new ≡ [] → find (λ row. is_parent row new) rows ≡ Some above → IsBehind (above ∷ lower_spans schema.types rows new) rows new (inserted schema rows new)
+  pub behind_twin : (before : List Row) (last : Row) → earlier_twins schema rows new ≡ before ++ last ∷ []
+      → IsBehind (span_of schema.types rows last.name) rows new (inserted schema rows new)
+  pub behind_parent : (above : Row) → earlier_twins schema rows new ≡ [] → find (λ row. is_parent row new) rows ≡ Some above
+      → IsBehind (above ∷ lower_spans schema.types rows new) rows new (inserted schema rows new)
   pub at_front : earlier_twins schema rows new ≡ [] → new.parent ≡ None → inserted schema rows new ≡ new ∷ rows
 
 abbrev pub InsertionsAreByRule : Type 0
-InsertionsAreByRule = (schema : Schema) (rows : List Row) (new : Row) → IsTrue (is_forest schema rows) → IsTrue (may_be_inserted schema rows new) → IsByRule schema rows new
+InsertionsAreByRule = (schema : Schema) (rows : List Row) (new : Row) → IsTrue (is_forest schema rows) → IsTrue (may_be_inserted schema rows new)
+    → IsByRule schema rows new

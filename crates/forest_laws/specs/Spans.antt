@@ -35,8 +35,11 @@ those_in rows others = filter (λ row. not (is_new_name rows row.name)) others
 -- of the rows up to an anchor those that a cut leaves: so an anchor in the cut part goes to the last row before that, and every other stays
 pub record LeavesAnchors (schema : Schema) (rows : List Row) (name : Ilk) (c : IsCut schema rows name) : Type 0 where
   pub before : (upto rest : List Row) → c.front ≡ upto ++ rest → those_in (without_span schema.types rows name) upto ≡ upto
-  pub within : (upto rest : List Row) → span_of schema.types rows name ≡ upto ++ rest → those_in (without_span schema.types rows name) (c.front ++ upto) ≡ c.front
-  pub behind : (upto rest : List Row) → c.back ≡ upto ++ rest → those_in (without_span schema.types rows name) (c.front ++ (span_of schema.types rows name ++ upto)) ≡ c.front ++ upto
+  pub within : (upto rest : List Row) → span_of schema.types rows name ≡ upto ++ rest
+      → those_in (without_span schema.types rows name) (c.front ++ upto) ≡ c.front
+  pub behind : (upto rest : List Row) → c.back ≡ upto ++ rest
+      → those_in (without_span schema.types rows name) (c.front ++ (span_of schema.types rows name ++ upto)) ≡ c.front ++ upto
 
 abbrev pub CutsLeaveAnchors : Type 0
-CutsLeaveAnchors = (schema : Schema) (rows : List Row) (name : Ilk) → IsTrue (is_forest schema rows) → (c : IsCut schema rows name) → LeavesAnchors schema rows name c
+CutsLeaveAnchors = (schema : Schema) (rows : List Row) (name : Ilk) → IsTrue (is_forest schema rows)
+    → (c : IsCut schema rows name) → LeavesAnchors schema rows name c

@@ -1,5 +1,5 @@
 use Rattle.std.proofs.Common.{refl, [], ◌∷◌, codes}
-use Rattle.forest_laws.specs.Examples.{example_schema, example_rows, another_row, name_at, root_row, child_row}
+use Rattle.forest_laws.specs.Examples.{example_schema, example_rows, another_row, name_at, first_cut}
 use Rattle.forest_laws.proofs.examples.example_meets_the_laws.Goals as goal
 
 pub returns : goal.returns
@@ -10,7 +10,6 @@ returns c =
       cut_keeps = c.cut_keeps.ensures example_schema example_rows (name_at 32) forest;
       replaced_keeps = c.replacement_keeps.ensures example_schema example_rows (name_at 96) (codes "700cc") forest c.example_is_forest.ensures.may_change;
       by_rule = c.insertions_are_by_rule.ensures example_schema example_rows another_row forest refl;
-      anchors = c.cuts_leave_anchors.ensures example_schema example_rows (name_at 32) forest
-          (record { front = root_row 16 (codes "001aa") ∷ []; back = child_row 80 2 16 (codes "01yy") ∷ child_row 112 4 16 (codes "u") ∷ root_row 96 (codes "700bb") ∷ []; whole = refl; cut = refl });
+      anchors = c.cuts_leave_anchors.ensures example_schema example_rows (name_at 32) forest first_cut;
       by_parents = c.paths_are_by_parents.ensures example_schema example_rows forest;
     }
