@@ -1,0 +1,4 @@
+pub mod Keep
+pub mod Lawful
+pub mod Looks
+pub mod View
