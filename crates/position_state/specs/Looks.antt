@@ -1,6 +1,6 @@
 -- What looks at a view show.
-use Rattle.std.specs.Prelude.{◌≡◌, ℕ, ◌+◌, ◌-◌, ◌^◌, ◌==◌, nat_lt, nat_le, Bool, true, false, not, ◌&&◌, List, [], length, min, take, filter, find, Option, None, IfSome}
-use Rattle.std.specs.List.{slice_get, last_or, prefix_len}
+use Rattle.std.specs.Prelude.{◌≡◌, ℕ, ◌+◌, ◌-◌, ◌^◌, ◌==◌, nat_lt, nat_le, Bool, true, false, ◌&&◌, List, length, min, filter, find, Option, None, IfSome}
+use Rattle.std.specs.List.{slice_get, last_or}
 use Rattle.std.specs.Option.{option_map, option_map_or}
 use Rattle.std.specs.Str.{bytes_eq}
 use Rattle.hal_base.specs.Fault.{Fails}
@@ -12,7 +12,7 @@ use Rattle.hal_schema.specs.Entry.{entries_of}
 use Rattle.position_state.specs.declared.session.Anchor.{Anchor}
 use Rattle.position_state.specs.declared.session.Anchor.TheVariants.{Front, At}
 use Rattle.position_state.specs.declared.spot.Spot.{Spot}
-use Rattle.position_state.specs.View.{view_of, is_at, behind, is_place_of}
+use Rattle.position_state.specs.View.{view_of, is_at, behind, before, is_place_of}
 
 -- the schema, the list, where it is told, and how many blocks are free; how often the disk failed, how many looks there
 -- were; whether the walk may still be used
@@ -38,11 +38,6 @@ Shows seen index wanted spot = IfSome seen.forest (λ rows. spot ≡ wanted (vie
 
 abbrev pub first_behind : Anchor → List Spot → Option Spot
 first_behind at view = slice_get (behind at view) 0
-
--- the elements before a place
-abbrev pub before : Anchor → List Spot → List Spot
-before Front view = []
-before (At name root entry) view = take (prefix_len (λ spot. not (is_at (At name root entry) spot)) view) view
 
 abbrev pub last_before : Anchor → List Spot → Option Spot
 last_before at view = last_or None (before at view)

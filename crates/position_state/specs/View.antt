@@ -1,7 +1,7 @@
 -- What a session sees: the elements of its view, in order. IMS: the plain hierarchic sequence, or a secondary processing
 -- sequence (PROCSEQ).
-use Rattle.std.specs.Prelude.{ℕ, ◌+◌, Bool, true, false, ◌&&◌, List, [], ◌++◌, map, take, drop, flat_map, Option, None, Some, if◌then◌else◌}
-use Rattle.std.specs.List.{slice_get, list_any, after_first, prefix_len}
+use Rattle.std.specs.Prelude.{ℕ, Bool, true, false, ◌&&◌, List, [], ◌∷◌, ◌++◌, map, take, drop, flat_map, find, Option, None, Some, if◌then◌else◌}
+use Rattle.std.specs.List.{slice_get, after_first}
 use Rattle.std.specs.Option.{option_map_or}
 use Rattle.std.specs.Str.{bytes_eq}
 use Rattle.hal_schema.specs.declared.row.Row.{Row}
@@ -70,16 +70,31 @@ abbrev pub behind : Anchor → List Spot → List Spot
 behind Front view = view
 behind (At name root entry) view = after_first (is_at (At name root entry)) view
 
+-- the elements before the first that has a place, and all where none has it
+abbrev pub all_before : Anchor → List Spot → List Spot
+all_before at [] = []
+all_before at (spot ∷ view) = if is_at at spot then [] else spot ∷ all_before at view
+
+-- and that element with them
+abbrev pub all_up_to : Anchor → List Spot → List Spot
+all_up_to at [] = []
+all_up_to at (spot ∷ view) = spot ∷ (if is_at at spot then [] else all_up_to at view)
+
+-- the elements before a place: none before the front
+abbrev pub before : Anchor → List Spot → List Spot
+before Front view = []
+before (At name root entry) view = all_before (At name root entry) view
+
 -- the elements up to a place, and the one at it
 abbrev pub up_to : Anchor → List Spot → List Spot
 up_to Front view = []
-up_to (At name root entry) view = take (prefix_len (λ spot. if is_at (At name root entry) spot then false else true) view + 1) view
+up_to (At name root entry) view = all_up_to (At name root entry) view
 
 abbrev pub root_named : Anchor → List ℕ
 root_named Front = []
 root_named (At name root entry) = root
 
--- a place is the front, or an element of these has it, under the root that it names
+-- a place is the front, or that of an element of these, under the root that it names
 abbrev pub is_place_of : List Spot → Anchor → Bool
 is_place_of view Front = true
-is_place_of view (At name root entry) = list_any (λ spot. is_at (At name root entry) spot && bytes_eq root (root_named spot.at)) view
+is_place_of view (At name root entry) = option_map_or (λ spot. bytes_eq root (root_named spot.at)) (find (is_at (At name root entry)) view) false
