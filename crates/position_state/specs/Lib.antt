@@ -1,4 +1,5 @@
 pub mod Keep
+pub mod KeepLaws
 pub mod Lawful
 pub mod Looks
 pub mod View

@@ -1,0 +1,12 @@
+// What the definitions of views and sessions keep.
+ghost use Rattle.position_state.specs.KeepLaws.{AnchorsStand, AnchorsStay};
+
+/// A place that both views have stays where it is.
+pub fn anchors_stay()
+    ensures { AnchorsStay }
+{}
+
+/// What a change leaves of a place is the front or at an element of the new view.
+pub fn anchors_stand()
+    ensures { AnchorsStand }
+{}
