@@ -1,4 +1,4 @@
--- What a change leaves of an anchor.
+-- What a change leaves of an anchor and of a session.
 use Rattle.std.proofs.Common.{◌≡◌, ℕ, ◌==◌, Bool, true, false, cond, ◌&&◌, ◌||◌, List, [], ◌∷◌, Option, None, Some, ◌⊎◌, inl, inr, refl, sym, ap, subst, ◌∙◌}
 use Rattle.std.specs.Prelude.{filter, find, is_none}
 use Rattle.std.specs.List.{list_any, last_or}
@@ -7,13 +7,20 @@ use Rattle.std.specs.Str.{bytes_eq}
 use Rattle.std.proofs.lemmas.Bool.{true≢false, and_parts, eqb-true}
 use Rattle.std.proofs.lemmas.Slice.Eq.{bytes_eq-Decides}
 use Rattle.hal_base.specs.declared.place.Ilk.{Ilk}
-use Rattle.hal_schema.specs.Row.{same_name}
+use Rattle.hal_schema.specs.declared.row.Row.{Row}
+use Rattle.hal_schema.specs.declared.schema.Schema.{Schema}
+use Rattle.hal_schema.specs.declared.schema.SegType.{SegType}
+use Rattle.hal_schema.specs.Row.{same_name, row_named, row_level, is_new_name}
+use Rattle.hal_schema.specs.Paths.{path_with, with_paths}
 use Rattle.position_state.specs.declared.session.Anchor.{Anchor}
 use Rattle.position_state.specs.declared.session.Anchor.TheVariants.{Front, At}
+use Rattle.position_state.specs.declared.session.Session.{Session}
+use Rattle.position_state.specs.declared.spot.Change.TheVariants.{Nothing}
 use Rattle.position_state.specs.declared.spot.Spot.{Spot}
-use Rattle.position_state.specs.View.{same_entry, same_place, is_at, all_up_to, up_to, root_named, is_place_of}
-use Rattle.position_state.specs.Keep.{kept_anchor}
-use Rattle.position_state.specs.KeepLaws.{AnchorsStay, AnchorsStand}
+use Rattle.position_state.specs.View.{root_key_of, view_of, same_entry, same_place, is_at, all_up_to, up_to, root_named, is_place_of}
+use Rattle.position_state.specs.Keep.{kept_anchor, kept_parent, kept_session}
+use Rattle.position_state.specs.Lawful.{is_row_of, Stands}
+use Rattle.position_state.specs.KeepLaws.{AnchorsStay, AnchorsStand, SessionsStay}
 
 -- ---- places, as equations
 
@@ -131,3 +138,41 @@ anchors_stand old new at = by (last_or None (filter there (up_to at old))) (last
         → (option_map_or (λ (spot : Spot). spot.at) o Front ≡ Front) ⊎ (list_any (is_at (option_map_or (λ (spot : Spot). spot.at) o Front)) new ≡ true)
     by None h = inl refl
     by (Some s) h = inr h
+
+-- ---- sessions
+
+-- a row that is on the list has no new name
+under_known : (types : List SegType) (name : Ilk) (root : List ℕ) (path rows : List Row)
+    → list_any (λ p. same_name p.1.name name && bytes_eq (root_key_of types p.0) root) (with_paths (row_level types) path rows) ≡ true → is_new_name rows name ≡ false
+under_known types name root path [] h = absurd (true≢false (sym h))
+under_known types name root path (row ∷ rows) h =
+    by (same_name row.name name) (under_known types name root (path_with (row_level types) path row) rows) h
+  where
+    on : Bool → Bool
+    on b = b && bytes_eq (root_key_of types (path_with (row_level types) path row)) root
+
+    by : (b : Bool)
+        → (list_any (λ p. same_name p.1.name name && bytes_eq (root_key_of types p.0) root) (with_paths (row_level types) (path_with (row_level types) path row) rows) ≡ true → is_new_name rows name ≡ false)
+        → (on b || list_any (λ p. same_name p.1.name name && bytes_eq (root_key_of types p.0) root) (with_paths (row_level types) (path_with (row_level types) path row) rows)) ≡ true
+        → is_none (cond b (Some row) (row_named rows name)) ≡ false
+    by true rest h = refl
+    by false rest h = rest h
+
+-- so a held row and a parent that are there stay
+parent_stays : (schema : Schema) (rows : List Row) (at : Option Anchor) → is_row_of schema rows at ≡ true → kept_parent rows at ≡ at
+parent_stays schema rows None h = refl
+parent_stays schema rows (Some Front) h = absurd (true≢false (sym h))
+parent_stays schema rows (Some (At name root entry)) h =
+    ap (λ b. cond b None (Some (At name root entry))) (under_known schema.types name root [] rows h)
+
+session_stays : (schema : Schema) (rows : List Row) (session : Session) → Stands schema rows session → kept_session schema Nothing rows rows session ≡ session
+session_stays schema rows session s =
+    by (anchors_stay (view_of schema session.index rows) (view_of schema session.index rows) session.anchor s.anchor s.anchor)
+    (parent_stays schema rows session.held s.held) (parent_stays schema rows session.parent s.parent)
+  where
+    by : kept_anchor (view_of schema session.index rows) (view_of schema session.index rows) session.anchor ≡ session.anchor → kept_parent rows session.held ≡ session.held
+        → kept_parent rows session.parent ≡ session.parent → kept_session schema Nothing rows rows session ≡ session
+    by e f g = λ i. record session { anchor = e i; held = f i; parent = g i }
+
+pub sessions_stay : SessionsStay
+sessions_stay = (λ schema rows name session s. (refl, session_stays schema rows session s), λ index entry schema rows name session s. (refl, session_stays schema rows session s))

@@ -1,11 +1,18 @@
--- Laws of what a change leaves of an anchor.
-use Rattle.std.specs.Prelude.{◌≡◌, List, IsTrue, ◌⊎◌}
+-- Laws of what a change leaves of an anchor and of a session.
+use Rattle.std.specs.Prelude.{◌≡◌, ℕ, List, IsTrue, ◌⊎◌}
 use Rattle.std.specs.List.{list_any}
+use Rattle.hal_base.specs.declared.place.Ilk.{Ilk}
+use Rattle.hal_schema.specs.declared.row.Row.{Row}
+use Rattle.hal_schema.specs.declared.schema.Schema.{Schema}
 use Rattle.position_state.specs.declared.session.Anchor.{Anchor}
 use Rattle.position_state.specs.declared.session.Anchor.TheVariants.{Front}
+use Rattle.position_state.specs.declared.session.Session.{Session}
+use Rattle.position_state.specs.declared.spot.Change.{Change}
+use Rattle.position_state.specs.declared.spot.Change.TheVariants.{Nothing, Heal}
 use Rattle.position_state.specs.declared.spot.Spot.{Spot}
 use Rattle.position_state.specs.View.{is_at, is_place_of}
-use Rattle.position_state.specs.Keep.{kept_anchor}
+use Rattle.position_state.specs.Keep.{kept_anchor, changed, kept_session}
+use Rattle.position_state.specs.Lawful.{Stands}
 
 -- a place of both views stays
 abbrev pub AnchorsStay : Type 0
@@ -14,3 +21,11 @@ AnchorsStay = (old new : List Spot) (at : Anchor) → IsTrue (is_place_of old at
 -- what is left of a place is the front or at an element of the new view
 abbrev pub AnchorsStand : Type 0
 AnchorsStand = (old new : List Spot) (at : Anchor) → (kept_anchor old new at ≡ Front) ⊎ IsTrue (list_any (is_at (kept_anchor old new at)) new)
+
+-- a change that is nothing of the list leaves the list and every session as they stand
+abbrev pub LeavesAll : Change → Type 0
+LeavesAll change = (schema : Schema) (rows : List Row) (name : Ilk) (session : Session) → Stands schema rows session
+    → (changed schema change name rows ≡ rows) × (kept_session schema change rows rows session ≡ session)
+
+abbrev pub SessionsStay : Type 0
+SessionsStay = LeavesAll Nothing × ((index : ℕ) (entry : List ℕ) → LeavesAll (Heal index entry))

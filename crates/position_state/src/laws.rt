@@ -1,5 +1,5 @@
 // What the definitions of views and sessions keep.
-ghost use Rattle.position_state.specs.KeepLaws.{AnchorsStand, AnchorsStay};
+ghost use Rattle.position_state.specs.KeepLaws.{AnchorsStand, AnchorsStay, SessionsStay};
 
 /// A place that both views have stays where it is.
 pub fn anchors_stay()
@@ -9,4 +9,9 @@ pub fn anchors_stay()
 /// What a change leaves of a place is the front or at an element of the new view.
 pub fn anchors_stand()
     ensures { AnchorsStand }
+{}
+
+/// No change and the setting of a pointer leave the list, and every session that stands.
+pub fn sessions_stay()
+    ensures { SessionsStay }
 {}

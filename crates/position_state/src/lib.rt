@@ -14,7 +14,7 @@ mod session;
 mod spot;
 mod walk;
 
-pub use laws::{anchors_stand, anchors_stay};
+pub use laws::{anchors_stand, anchors_stay, sessions_stay};
 pub use session::{Anchor, Session};
 pub use spot::{Change, Spot};
 pub use walk::{Walk, WalkFault};
