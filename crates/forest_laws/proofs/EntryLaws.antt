@@ -22,7 +22,7 @@ use Rattle.hal_schema.specs.Entry.{Entry, entry_of, entries_by_row, with_entry, 
 use Rattle.hal_schema.specs.Lawful.{all_rise, is_below_first}
 use Rattle.hal_schema.specs.Facts.{KeepsIndex, SchemasAreKept}
 use Rattle.forest_laws.specs.Entries.{IsEntryOf, EntriesAreOfSources, EntriesAreInKeyOrder}
-use Rattle.forest_laws.proofs.Names.{name_from}
+use Rattle.hal_schema.proofs.RowNames.{name_from}
 use Rattle.forest_laws.proofs.Carried.{above_in}
 use Rattle.forest_laws.proofs.Parents.{Parts, parts_of, path_among}
 use Rattle.forest_laws.proofs.PathLaws.{each_path, path_codes}

@@ -18,7 +18,7 @@ use Rattle.hal_schema.specs.Insertion.{new_path, enters_freely}
 use Rattle.hal_schema.specs.Facts.{SchemasAreKept}
 use Rattle.forest_laws.specs.Keeping.{InsertionKeeps}
 use Rattle.forest_laws.proofs.Lists.{all_with, all_both, all_weaker, all_parts, pairs_with}
-use Rattle.forest_laws.proofs.Names.{name_is, name_from}
+use Rattle.hal_schema.proofs.RowNames.{name_is, name_from}
 use Rattle.forest_laws.proofs.Carried.{with_append, passed_over}
 use Rattle.forest_laws.proofs.Parents.{parts_of, forest_from}
 use Rattle.forest_laws.proofs.Place.{Placed, placed_of}

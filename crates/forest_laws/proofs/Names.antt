@@ -1,5 +1,5 @@
 -- Names and parents of rows, as equations.
-use Rattle.std.proofs.Common.{◌≡◌, ℕ, ◌==◌, Bool, true, false, not, ◌&&◌, List, [], ◌∷◌, ◌++◌, Option, Some, None, ◌⊎◌, inl, inr, refl, sym, ap, subst, ◌∙◌}
+use Rattle.std.proofs.Common.{◌≡◌, ℕ, ◌==◌, Bool, true, false, not, List, [], ◌∷◌, ◌++◌, Option, Some, None, ◌⊎◌, inl, inr, refl, sym, ap, subst, ◌∙◌}
 use Rattle.std.specs.Prelude.{is_none}
 use Rattle.std.specs.List.{list_all}
 use Rattle.std.specs.Option.{option_map_or}
@@ -10,23 +10,8 @@ use Rattle.hal_schema.specs.declared.schema.SegType.{SegType}
 use Rattle.hal_schema.specs.SegType.{parent_code, is_parent_code}
 use Rattle.hal_schema.specs.Row.{same_name, same_parent, is_parent, are_twins}
 use Rattle.hal_schema.specs.Forest.{all_pairs, names_apart}
+use Rattle.hal_schema.proofs.RowNames.{name_is, name_itself, name_from}
 use Rattle.forest_laws.proofs.Lists.{Among, among_passes, pairs_at, all_weaker}
-
-ilk_is : (a b : Ilk) → a.addr ≡ b.addr → a.part ≡ b.part → a.number ≡ b.number → a ≡ b
-ilk_is a b e f g = λ i. record { addr = e i; part = f i; number = g i }
-
-pub name_is : (a b : Ilk) → same_name a b ≡ true → a ≡ b
-name_is a b h =
-    let p = and_parts (a.addr == b.addr && a.part == b.part) (a.number == b.number) h in
-    let q = and_parts (a.addr == b.addr) (a.part == b.part) p.0 in
-    ilk_is a b (eqb-true a.addr b.addr q.0) (eqb-true a.part b.part q.1) (eqb-true a.number b.number p.1)
-
-name_itself : (a : Ilk) → same_name a a ≡ true
-name_itself a =
-    and_from (a.addr == a.addr && a.part == a.part) (a.number == a.number) (and_from (a.addr == a.addr) (a.part == a.part) (eq-eqb a.addr a.addr refl) (eq-eqb a.part a.part refl)) (eq-eqb a.number a.number refl)
-
-pub name_from : (a b : Ilk) → a ≡ b → same_name a b ≡ true
-name_from a b e = subst (λ (c : Ilk). same_name a c ≡ true) e (name_itself a)
 
 pub parents_are : (a b : Option Ilk) → same_parent a b ≡ true → a ≡ b
 parents_are None None h = refl

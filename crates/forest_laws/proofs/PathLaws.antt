@@ -20,7 +20,8 @@ use Rattle.hal_schema.specs.Forest.{all_pairs, names_apart, has_length, is_child
 use Rattle.hal_schema.specs.Facts.{IsKept, SchemasAreKept}
 use Rattle.forest_laws.specs.Paths.{parents_within, path_by_parents, PathsAreByParents, PathsAreAncestries, KeysAreLong, PathsGoOn, PathsBeginAnew, PathsAppend}
 use Rattle.forest_laws.proofs.Lists.{Among, among_passes, among_append, among_left, among_middle, among_filter, among_split, all_among, filter_all, pairs_at, find_at}
-use Rattle.forest_laws.proofs.Names.{name_from, none_is, parent_code_is}
+use Rattle.hal_schema.proofs.RowNames.{name_from}
+use Rattle.forest_laws.proofs.Names.{none_is, parent_code_is}
 use Rattle.forest_laws.proofs.Carried.{above_in, Kept, carried, after_append, with_append}
 use Rattle.forest_laws.proofs.Parents.{Parts, parts_of, path_among, child_parent, row_known}
 

@@ -23,7 +23,8 @@ use Rattle.hal_schema.specs.Insertion.{is_first, is_twin_before, is_lower_child,
 use Rattle.hal_schema.specs.Facts.{SchemasAreKept}
 use Rattle.forest_laws.specs.Places.{is_earlier_twin, earlier_twins, is_lower_sibling, lower_spans, IsBehind, InsertionsAreByRule}
 use Rattle.forest_laws.proofs.Lists.{Among, among_passes, among_append, among_left, among_right, among_middle, among_filter, all_among, all_append, all_parts, all_weaker, all_filtered, filter_none, Found, found, pairs_at}
-use Rattle.forest_laws.proofs.Names.{name_from, parent_is, parents_from, parents_are, twins_are, same_some, one_of_name}
+use Rattle.hal_schema.proofs.RowNames.{name_from}
+use Rattle.forest_laws.proofs.Names.{parent_is, parents_from, parents_are, twins_are, same_some, one_of_name}
 use Rattle.forest_laws.proofs.Carried.{above_in, is_above, not_above, starts_above, after_append, with_append, passed_over}
 use Rattle.forest_laws.proofs.Parents.{Parts, parts_of, IsRootRow, ParentOf, parent_before, child_level, child_parent, row_known, path_among}
 use Rattle.forest_laws.proofs.Place.{Behind, placed_of}

@@ -14,7 +14,8 @@ use Rattle.hal_schema.specs.Span.{span_of, without_span}
 use Rattle.hal_schema.specs.Forest.{all_pairs, names_apart}
 use Rattle.forest_laws.specs.Spans.{is_on, SpansAreBelow, IsCut, CutsAreSpans, those_in, CutsLeaveAnchors}
 use Rattle.forest_laws.proofs.Lists.{Among, among_passes, among_append, among_left, among_right, all_among, all_append, all_parts, all_weaker, filter_all, filter_none, all_in_filtered, all_filtered, PairsParts, pairs_parts}
-use Rattle.forest_laws.proofs.Names.{name_is, name_from, apart_names, others_behind}
+use Rattle.hal_schema.proofs.RowNames.{name_is, name_from}
+use Rattle.forest_laws.proofs.Names.{apart_names, others_behind}
 use Rattle.forest_laws.proofs.Carried.{is_above, above_in, with_append, passed_over}
 use Rattle.forest_laws.proofs.Parents.{Parts, parts_of}
 use Rattle.forest_laws.proofs.CutKeeps.{CutAt, NoCut, cut_of}

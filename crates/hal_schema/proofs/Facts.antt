@@ -1,20 +1,20 @@
 -- What every schema keeps, from the tests that it keeps.
-use Rattle.std.proofs.Common.{◌≡◌, ℕ, zero, suc, ◌+◌, ◌<◌, ◌≤◌, ◌==◌, Bool, true, false, ◌&&◌, ◌||◌, not, cond, nat_lt, nat_le, IsTrue, List, [], ◌∷◌, length, Option, Some, None, refl, sym, ap, subst, ◌∙◌, arith, ◌⊎◌, inl, inr}
+use Rattle.std.proofs.Common.{◌≡◌, ℕ, zero, suc, ◌+◌, ◌<◌, ◌≤◌, ◌==◌, Bool, true, false, ◌&&◌, ◌||◌, not, cond, nat_le, List, [], ◌∷◌, length, Option, Some, None, refl, sym, ap, subst, ◌∙◌, arith, ◌⊎◌, inl, inr}
 use Rattle.std.specs.Prelude.{option_and_then}
-use Rattle.std.specs.List.{list_all, list_any, slice_get, enumerate_from}
+use Rattle.std.specs.List.{list_all, list_any, enumerate_from}
 use Rattle.std.specs.Option.{option_map_or}
-use Rattle.std.proofs.lemmas.Bool.{and_parts, and_from, or_cases, eqb-true, leb-true, ltb-true, not-true, true≢false, cases_lt}
+use Rattle.std.proofs.lemmas.Bool.{and_parts, or_cases, eqb-true, leb-true, not-true, true≢false, cases_lt}
 use Rattle.hal_schema.specs.declared.schema.Field.{Field}
 use Rattle.hal_schema.specs.declared.schema.KeyField.{KeyField}
 use Rattle.hal_schema.specs.declared.schema.SegType.{SegType}
 use Rattle.hal_schema.specs.declared.schema.IndexDef.{IndexDef}
 use Rattle.hal_schema.specs.declared.schema.PartDef.{PartDef}
 use Rattle.hal_schema.specs.declared.schema.Schema.{Schema}
-use Rattle.hal_schema.specs.SegType.{type_of, parent_code, ancestry, level_of, key_bytes, path_key_bytes}
-use Rattle.hal_schema.specs.Lawful.{is_key_portion, is_key_field, is_within, field_fits, fields_fit, keys_are_fields, letters_are_known, parents_are_before, parent_is_before, root_key_is_unique, indexes_are_kept, index_is_kept, highs_rise, factors_fit, part_is_kept, blocks_are_kept, same_field}
-use Rattle.hal_schema.specs.Facts.{LiesIn, IsBelow, KeepsKey, KeepsType, KeepsIndex, KeepsPart, IsKept, SchemasAreKept}
+use Rattle.hal_schema.specs.SegType.{type_of, parent_code, level_of, key_bytes, path_key_bytes}
+use Rattle.hal_schema.specs.Lawful.{is_key_portion, is_key_field, is_within, field_fits, parents_are_before, parent_is_before, index_is_kept, part_is_kept, same_field}
+use Rattle.hal_schema.specs.Facts.{LiesIn, KeepsType, KeepsIndex, KeepsPart, SchemasAreKept}
 use Rattle.hal_schema.proofs.Ancestry.{types_lower, ancestry-child, level-child, level-root, level-short, path-child, all_places}
-use Rattle.hal_schema.proofs.Kept.{Counts, counts_from, level_within}
+use Rattle.hal_schema.proofs.Kept.{counts_from, level_within}
 use Rattle.hal_schema.proofs.Indexes.{all_at, all_weaker, among_fits, index_parts, source_known}
 
 lies : (all start bytes : ℕ) → is_within all start bytes ≡ true → LiesIn all start bytes

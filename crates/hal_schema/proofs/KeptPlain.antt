@@ -8,14 +8,13 @@ use Rattle.std.proofs.lemmas.List.Folds.{list_all-map}
 use Rattle.hal_base.specs.Name.{is_name, is_field_name}
 use Rattle.hal_schema.specs.declared.raw.RawDbd.{RawDbd}
 use Rattle.hal_schema.specs.declared.raw.RawIndex.{RawIndex}
-use Rattle.hal_schema.specs.declared.raw.RawPart.{RawPart}
 use Rattle.hal_schema.specs.declared.raw.RawSchema.{RawSchema}
 use Rattle.hal_schema.specs.declared.raw.RawType.{RawType}
 use Rattle.hal_schema.specs.declared.schema.Field.{Field}
 use Rattle.hal_schema.specs.declared.schema.SegType.{SegType}
 use Rattle.hal_schema.specs.declared.schema.IndexDef.{IndexDef}
 use Rattle.hal_schema.specs.declared.schema.PartDef.{PartDef}
-use Rattle.hal_schema.specs.Lawful.{type_is_named, index_is_named, names_are_kept, module_is_kept, part_is_stored}
+use Rattle.hal_schema.specs.Lawful.{type_is_named, index_is_named, names_are_kept, module_is_kept}
 use Rattle.hal_schema.specs.Named.{raw_type_is_named, raw_index_is_named, dbd_is_named, parts_are_named}
 use Rattle.hal_schema.specs.Raw.{types_of, seg_type, field_of, indexes_of, index_of, target_below, parts_of, part_of, high_below, rm_of, anch_of, rbn_of}
 use Rattle.hal_schema.proofs.Indexes.{all_weaker}

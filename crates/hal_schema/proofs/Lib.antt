@@ -15,3 +15,4 @@ pub mod Differ
 pub mod KeptFields
 pub mod KeptPlain
 pub mod Facts
+pub mod RowNames

@@ -1,4 +1,5 @@
--- A raw definition in which no name but a field's, and those in SRCH and SUBSEQ, is that of a portion of the concatenated key.
+-- A raw definition whose own names (the database, RMNAME's module, the types, each index with its segment and its XDFLD) are plain, and whose fields' names are plain
+-- or those of a portion of the concatenated key. Names that only point elsewhere (PARENT, an index's target and source, SRCH, SUBSEQ) aren't looked at: the rules of a definition do that.
 use Rattle.std.specs.Prelude.{Bool, true, ◌&&◌}
 use Rattle.std.specs.List.{list_all}
 use Rattle.std.specs.Option.{option_map_or}

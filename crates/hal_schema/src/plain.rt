@@ -9,7 +9,8 @@ use crate::{RawDbd, RawField, RawIndex, RawParts, RawType};
 use hal_base::Name8;
 
 impl RawDbd {
-    /// Whether no name but those of fields, and in SRCH and SUBSEQ, is that of a portion of the concatenated key.
+    /// Whether the names that this definition gives are plain; a field's may also be that of a portion of the concatenated key. Names that only point
+    /// elsewhere (PARENT, an index's target and source, SRCH, SUBSEQ) aren't looked at.
     pub fn is_named(&self) -> bool
         ensures { result ≡ dbd_is_named self.now }
     {

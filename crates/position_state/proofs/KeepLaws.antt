@@ -1,16 +1,17 @@
 -- What a change leaves of an anchor and of a session.
-use Rattle.std.proofs.Common.{◌≡◌, ℕ, ◌==◌, Bool, true, false, cond, ◌&&◌, ◌||◌, List, [], ◌∷◌, Option, None, Some, ◌⊎◌, inl, inr, refl, sym, ap, subst, ◌∙◌}
+use Rattle.std.proofs.Common.{◌≡◌, ℕ, Bool, true, false, cond, ◌&&◌, ◌||◌, List, [], ◌∷◌, Option, None, Some, ◌⊎◌, inl, inr, refl, sym, ap, subst, ◌∙◌}
 use Rattle.std.specs.Prelude.{filter, find, is_none}
 use Rattle.std.specs.List.{list_any, last_or}
 use Rattle.std.specs.Option.{option_map_or}
 use Rattle.std.specs.Str.{bytes_eq}
-use Rattle.std.proofs.lemmas.Bool.{true≢false, and_parts, eqb-true}
+use Rattle.std.proofs.lemmas.Bool.{true≢false, and_parts}
 use Rattle.std.proofs.lemmas.Slice.Eq.{bytes_eq-Decides}
 use Rattle.hal_base.specs.declared.place.Ilk.{Ilk}
 use Rattle.hal_schema.specs.declared.row.Row.{Row}
 use Rattle.hal_schema.specs.declared.schema.Schema.{Schema}
 use Rattle.hal_schema.specs.declared.schema.SegType.{SegType}
 use Rattle.hal_schema.specs.Row.{same_name, row_named, row_level, is_new_name}
+use Rattle.hal_schema.proofs.RowNames.{name_is}
 use Rattle.hal_schema.specs.Paths.{path_with, with_paths}
 use Rattle.position_state.specs.declared.session.Anchor.{Anchor}
 use Rattle.position_state.specs.declared.session.Anchor.TheVariants.{Front, At}
@@ -23,15 +24,6 @@ use Rattle.position_state.specs.Lawful.{is_row_of, Stands}
 use Rattle.position_state.specs.KeepLaws.{AnchorsStay, AnchorsStand, SessionsStay}
 
 -- ---- places, as equations
-
-name_is : (a b : Ilk) → same_name a b ≡ true → a ≡ b
-name_is a b h =
-    let p = and_parts (a.addr == b.addr && a.part == b.part) (a.number == b.number) h in
-    let q = and_parts (a.addr == b.addr) (a.part == b.part) p.0 in
-    by (eqb-true a.addr b.addr q.0) (eqb-true a.part b.part q.1) (eqb-true a.number b.number p.1)
-  where
-    by : a.addr ≡ b.addr → a.part ≡ b.part → a.number ≡ b.number → a ≡ b
-    by e f g = λ i. record { addr = e i; part = f i; number = g i }
 
 entry_is : (a b : Option (List ℕ)) → same_entry a b ≡ true → a ≡ b
 entry_is None None h = refl

@@ -1,4 +1,4 @@
-use Rattle.std.proofs.Common.{refl, [], ◌∷◌, codes}
+use Rattle.std.proofs.Common.{refl, codes}
 use Rattle.forest_laws.specs.Examples.{example_schema, example_rows, another_row, name_at, first_cut}
 use Rattle.forest_laws.proofs.examples.example_meets_the_laws.Goals as goal
 
