@@ -14,7 +14,13 @@ pub fn key_of(number: u8) -> [u8; 3]
     ]
 }
 
+mod kept;
+
+pub use kept::OpenSet;
+
 #[cfg(test)]
 mod puts;
 #[cfg(test)]
 mod sets;
+#[cfg(test)]
+mod tables;

@@ -9,14 +9,14 @@ use Rattle.keyed_sets.specs.declared.row.RowShape.{RowShape}
 use Rattle.keyed_sets.specs.declared.index.First.{First}
 use Rattle.keyed_sets.specs.Changes.{placed}
 use Rattle.keyed_sets.specs.Layout.{Row, rows_in, is_below, PutsRows}
-use Rattle.keyed_sets.specs.Map.{with_row}
+use Rattle.keyed_sets.specs.Map.{RowsRise, with_row}
 use Rattle.keyed_sets.specs.Places.{lower_half, upper_half, begins_upto, kept_rows, moved_rows}
 use Rattle.keyed_sets.specs.Rule.{IsRowPage, tables, page_rows}
 use Rattle.keyed_sets.specs.Standing.{Apart, AllBelow, StartsWith, IsIndex, Stands}
 use Rattle.keyed_sets.specs.Index.{empty_numbers}
 use Rattle.keyed_sets.specs.Taken.{AreApart}
 use Rattle.keyed_sets.proofs.Keys.{below_upto, below_trans}
-use Rattle.keyed_sets.proofs.Maps.{Rows, with_row_has, with_row_new, with_row_old, with_row_rises}
+use Rattle.keyed_sets.proofs.Maps.{with_row_has, with_row_new, with_row_old, with_row_rises}
 use Rattle.keyed_sets.proofs.Members.{nothing_there, at_front, front_or, rise_one, rise-left, rise-right, rise-between}
 use Rattle.keyed_sets.proofs.Edited.{put_or, put_new, put_old, put_rises, in_parts, from_take, from_drop}
 use Rattle.keyed_sets.proofs.Sets.{lawful}
@@ -28,7 +28,7 @@ pub record Added (shape : RowShape) (pages : List (List ℕ)) (firsts : List Fir
   pub stands : Stands shape firsts (n ∷ rest) pages
   pub read : slice_get pages n ≡ Some page
   pub puts : PutsRows shape page page2 rows
-  pub rise : Rows rows
+  pub rise : RowsRise rows
   pub clear : (m : ℕ) → (m ≡ n → ⊥) → Apart (page_rows (tables shape pages) m) rows
 
 pub nothing_at : (shape : RowShape) (pages : List (List ℕ)) (firsts : List First) (n : ℕ) (rest : List ℕ) → Stands shape firsts (n ∷ rest) pages → page_rows (tables shape pages) n ≡ []
@@ -90,20 +90,20 @@ in_lower rows x c = from_take rows (length rows - length rows / 2) x c
 pub in_upper : (rows : List Row) (x : Row) → Contains (upper_half rows) x → Contains rows x
 in_upper rows x c = from_drop rows (length rows - length rows / 2) x c
 
-pub lower_rises : (rows : List Row) → Rows rows → Rows (lower_half rows)
-lower_rises rows rise = rise-left (λ (r : Row). r.0) (lower_half rows) (upper_half rows) (subst Rows (sym (halves rows)) rise)
+pub lower_rises : (rows : List Row) → RowsRise rows → RowsRise (lower_half rows)
+lower_rises rows rise = rise-left (λ (r : Row). r.0) (lower_half rows) (upper_half rows) (subst RowsRise (sym (halves rows)) rise)
 
-pub upper_rises : (rows : List Row) → Rows rows → Rows (upper_half rows)
-upper_rises rows rise = rise-right (λ (r : Row). r.0) (lower_half rows) (upper_half rows) (subst Rows (sym (halves rows)) rise)
+pub upper_rises : (rows : List Row) → RowsRise rows → RowsRise (upper_half rows)
+upper_rises rows rise = rise-right (λ (r : Row). r.0) (lower_half rows) (upper_half rows) (subst RowsRise (sym (halves rows)) rise)
 
-pub half_below : (rows : List Row) → Rows rows → AllBelow (lower_half rows) (upper_half rows)
-half_below rows rise x y c d = rise-between (λ (r : Row). r.0) (lower_half rows) (upper_half rows) (subst Rows (sym (halves rows)) rise) x y c d
+pub half_below : (rows : List Row) → RowsRise rows → AllBelow (lower_half rows) (upper_half rows)
+half_below rows rise x y c d = rise-between (λ (r : Row). r.0) (lower_half rows) (upper_half rows) (subst RowsRise (sym (halves rows)) rise) x y c d
 
 begun : (key : List ℕ) (rows : List Row) → begins_upto key rows ≡ true → (z : Row) × Contains rows z × (is_below key (z.0) ≡ false)
 begun key [] is = cc
 begun key (row ∷ rows) is = (row, at_front row rows, not-true (is_below key (row.0)) is)
 
-above_begun : (key : List ℕ) (rows : List Row) → Rows rows → begins_upto key rows ≡ false → (y : Row) → Contains rows y → is_below key (y.0) ≡ true
+above_begun : (key : List ℕ) (rows : List Row) → RowsRise rows → begins_upto key rows ≡ false → (y : Row) → Contains rows y → is_below key (y.0) ≡ true
 above_begun key [] rise is y c = absurd (nothing_there y c)
 above_begun key (row ∷ rows) rise is y c =
     let over : is_below key (row.0) ≡ true = not-false (is_below key (row.0)) is in
@@ -111,18 +111,18 @@ above_begun key (row ∷ rows) rise is y c =
 
 -- what is known of the two parts
 pub record AreParts (row : Row) (rows kept moved : List Row) : Type 0 where
-  pub kept_rise : Rows kept
-  pub moved_rise : Rows moved
+  pub kept_rise : RowsRise kept
+  pub moved_rise : RowsRise moved
   pub below : AllBelow kept moved
   pub kept_has : (x : Row) → Contains kept x → (x ≡ row) ⊎ Contains rows x
   pub moved_has : (x : Row) → Contains moved x → (x ≡ row) ⊎ Contains rows x
   pub new : Contains kept row ⊎ Contains moved row
   pub old : (x : Row) → Contains rows x → (x.0 ≡ row.0 → ⊥) → Contains kept x ⊎ Contains moved x
 
-with_or : (row : Row) (half rows : List Row) → Rows half → ((x : Row) → Contains half x → Contains rows x) → (x : Row) → Contains (with_row row half) x → (x ≡ row) ⊎ Contains rows x
+with_or : (row : Row) (half rows : List Row) → RowsRise half → ((x : Row) → Contains half x → Contains rows x) → (x : Row) → Contains (with_row row half) x → (x ≡ row) ⊎ Contains rows x
 with_or row half rows rise some x c = elim (with_row_has row half rise x c) [ inl is ↦ inl is | inr old ↦ inr (some x old.0) ]
 
-parts_up : (row : Row) (rows : List Row) → Rows rows → begins_upto (row.0) (upper_half rows) ≡ true → AreParts row rows (lower_half rows) (with_row row (upper_half rows))
+parts_up : (row : Row) (rows : List Row) → RowsRise rows → begins_upto (row.0) (upper_half rows) ≡ true → AreParts row rows (lower_half rows) (with_row row (upper_half rows))
 parts_up row rows rise up = record {
   kept_rise = lower_rises rows rise;
   moved_rise = with_row_rises row (upper_half rows) (upper_rises rows rise);
@@ -136,7 +136,7 @@ parts_up row rows rise up = record {
   old = λ x c other. elim (in_parts rows (length rows - length rows / 2) x c) [ inl low ↦ inl low | inr high ↦ inr (with_row_old row (upper_half rows) x high other) ];
 }
 
-parts_down : (row : Row) (rows : List Row) → Rows rows → begins_upto (row.0) (upper_half rows) ≡ false → AreParts row rows (with_row row (lower_half rows)) (upper_half rows)
+parts_down : (row : Row) (rows : List Row) → RowsRise rows → begins_upto (row.0) (upper_half rows) ≡ false → AreParts row rows (with_row row (lower_half rows)) (upper_half rows)
 parts_down row rows rise down = record {
   kept_rise = with_row_rises row (lower_half rows) (lower_rises rows rise);
   moved_rise = upper_rises rows rise;
@@ -150,7 +150,7 @@ parts_down row rows rise down = record {
   old = λ x c other. elim (in_parts rows (length rows - length rows / 2) x c) [ inl low ↦ inl (with_row_old row (lower_half rows) x low other) | inr high ↦ inr high ];
 }
 
-pub parts_of : (row : Row) (rows : List Row) → Rows rows → AreParts row rows (kept_rows row rows) (moved_rows row rows)
+pub parts_of : (row : Row) (rows : List Row) → RowsRise rows → AreParts row rows (kept_rows row rows) (moved_rows row rows)
 parts_of row rows rise = either (begins_upto (row.0) (upper_half rows)) (cases_Bool (begins_upto (row.0) (upper_half rows)))
   where
     either : (b : Bool) → (begins_upto (row.0) (upper_half rows) ≡ true) ⊎ (begins_upto (row.0) (upper_half rows) ≡ false) → AreParts row rows (kept_rows row rows) (moved_rows row rows)

@@ -9,12 +9,12 @@ use Rattle.keyed_sets.specs.declared.row.RowShape.{RowShape}
 use Rattle.keyed_sets.specs.declared.index.First.{First}
 use Rattle.keyed_sets.specs.Changes.{placed}
 use Rattle.keyed_sets.specs.Layout.{Row, rows_in, count_of, end_of, PutsRows}
-use Rattle.keyed_sets.specs.Map.{rows_of, with_row}
+use Rattle.keyed_sets.specs.Map.{RowsRise, rows_of, with_row}
 use Rattle.keyed_sets.specs.Places.{IsHome, Takes, IsPut, Fits, Puts}
 use Rattle.keyed_sets.specs.Rule.{Rise, capacity, tables, page_rows}
 use Rattle.keyed_sets.specs.Standing.{StartsWith, Stands}
 use Rattle.keyed_sets.specs.Taken.{AreApart}
-use Rattle.keyed_sets.proofs.Maps.{Rows, with_row_has, with_row_new, with_row_old, with_row_rises}
+use Rattle.keyed_sets.proofs.Maps.{with_row_has, with_row_new, with_row_old, with_row_rises}
 use Rattle.keyed_sets.proofs.Members.{rise_all}
 use Rattle.keyed_sets.proofs.Sets.{IsIn, lawful}
 use Rattle.keyed_sets.proofs.Lookups.{page_is, page_rises}
@@ -39,7 +39,7 @@ fit_part : (shape : RowShape) (pages : List (List ℕ)) (told2 : Option (List (L
     → Part shape pages firsts empty home p page page2 row (with_row row (rows_in shape page))
 fit_part shape pages told2 firsts empty home p page page2 at row t =
     let rise = page_rises shape pages p.page page t.stands.rule t.read in
-    let rises : Rows (rows_in shape page) = rise_all (rows_in shape page) rise in
+    let rises : RowsRise (rows_in shape page) = rise_all (rows_in shape page) rise in
     record {
       stands = t.stands;
       within = t.within;
@@ -63,7 +63,7 @@ fit_rows shape pages firsts empty home p page page2 row t =
     let are : AreApart (tables shape (set pages p.page page2)) = subst AreApart (sym grown) (written_apart shape pages firsts empty home p page page2 part w) in
     let apart = lawful shape pages t.stands.rule in
     let same = page_is shape pages p.page page t.read in
-    let rise : Rows rows = rise_all rows (page_rises shape pages p.page page t.stands.rule t.read) in
+    let rise : RowsRise rows = rise_all rows (page_rises shape pages p.page page t.stands.rule t.read) in
     let there : IsIn (placed p.page part table) row = (p.page, subst (λ (l : List Row). Contains l row) (sym (placed_here p.page part table le)) (with_row_new row rows)) in
     rows_with shape pages (set pages p.page page2) row apart are (subst (λ (t : List (List Row)). IsIn t row) (sym grown) there)
     (λ x c. elim (placed_or p.page part table le c.0 x (subst (λ (t : List (List Row)). Contains (page_rows t c.0) x) grown c.1)) [
@@ -88,7 +88,7 @@ fit_puts shape (Some pages) told2 firsts empty home p page page2 at row t =
     let table : List (List Row) = tables shape pages in
     let one = fit_part shape pages told2 firsts empty home p page page2 at row t in
     let same : page_rows table p.page ≡ rows = page_is shape pages p.page page t.read in
-    let rise : Rows rows = rise_all rows (page_rises shape pages p.page page t.stands.rule t.read) in
+    let rise : RowsRise rows = rise_all rows (page_rises shape pages p.page page t.stands.rule t.read) in
     let grown = written_table shape pages firsts empty home p page page2 (with_row row rows) (part_written shape pages firsts empty home p page page2 row (with_row row rows) one) in
     record {
       pages = subst (λ o. IsSomeAnd o (λ after. IsPut (capacity shape) row table (tables shape after))) (sym t.staged)

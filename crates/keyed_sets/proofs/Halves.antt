@@ -9,13 +9,13 @@ use Rattle.keyed_sets.specs.declared.row.RowShape.{RowShape}
 use Rattle.keyed_sets.specs.declared.index.First.{First}
 use Rattle.keyed_sets.specs.Changes.{placed}
 use Rattle.keyed_sets.specs.Layout.{Row, rows_in, is_below, PutsRows}
-use Rattle.keyed_sets.specs.Map.{rows_of, with_row}
+use Rattle.keyed_sets.specs.Map.{RowsRise, rows_of, with_row}
 use Rattle.keyed_sets.specs.Places.{Takes, kept_rows, moved_rows}
 use Rattle.keyed_sets.specs.Rule.{capacity, tables, page_rows}
 use Rattle.keyed_sets.specs.Goes.{IsFull}
 use Rattle.keyed_sets.specs.Standing.{Apart, StartsWith, Stands}
 use Rattle.keyed_sets.specs.Taken.{AreApart}
-use Rattle.keyed_sets.proofs.Maps.{Rows, lookup_is}
+use Rattle.keyed_sets.proofs.Maps.{lookup_is}
 use Rattle.keyed_sets.proofs.Members.{nothing_there, the_only, rise_all}
 use Rattle.keyed_sets.proofs.Tables.{first_row}
 use Rattle.keyed_sets.proofs.Sets.{IsIn, lawful}
@@ -123,7 +123,7 @@ not_key : (shape : RowShape) (pages : List (List ℕ)) (firsts : List First) (ho
     → (x : Row) → Contains (rows_in shape page) x → x.0 ≡ row.0 → ⊥
 not_key shape pages firsts home p n rest page page2 second second2 row h x c is =
     let rows : List Row = rows_in shape page in
-    let rise : Rows rows = rise_all rows (page_rises shape pages p.page page h.stands.rule h.read) in
+    let rise : RowsRise rows = rise_all rows (page_rises shape pages p.page page h.stands.rule h.read) in
     h.full.full (subst (Takes (capacity shape) (row.0)) (sym (page_is shape pages p.page page h.read)) (inl (ap is_some (lookup_is (row.0) rows rise x c is))))
 
 pub halved_rows : (shape : RowShape) (pages : List (List ℕ)) (firsts : List First) (home : ℕ) (p : First) (n : ℕ) (rest page page2 second second2 : List ℕ) (row : Row) (z : List ℕ) → Halved shape pages firsts home p n rest page page2 second second2 row

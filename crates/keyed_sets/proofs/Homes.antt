@@ -11,14 +11,14 @@ use Rattle.std.proofs.Math.Nat.{le-div_iff_mul-le}
 use Rattle.keyed_sets.specs.declared.row.RowShape.{RowShape}
 use Rattle.keyed_sets.specs.declared.index.First.{First}
 use Rattle.keyed_sets.specs.Layout.{Row, rows_in, count_of, end_of, row_length, is_below, place_of}
-use Rattle.keyed_sets.specs.Map.{lookup}
+use Rattle.keyed_sets.specs.Map.{RowsRise, lookup}
 use Rattle.keyed_sets.specs.Places.{HasNoRows, Takes, IsAboveAll}
 use Rattle.keyed_sets.specs.Rule.{capacity, page_rows}
 use Rattle.keyed_sets.specs.Goes.{GoesTo}
 use Rattle.keyed_sets.specs.Standing.{IsIndex}
 use Rattle.keyed_sets.specs.Taken.{AreApart}
 use Rattle.keyed_sets.proofs.Keys.{below_both}
-use Rattle.keyed_sets.proofs.Maps.{Rows, lookup_is, lookup_none}
+use Rattle.keyed_sets.proofs.Maps.{lookup_is, lookup_none}
 use Rattle.keyed_sets.proofs.Members.{nothing_there, rise_at}
 use Rattle.keyed_sets.proofs.Rows.{length-rows_in}
 use Rattle.keyed_sets.proofs.Tables.{first_row}
@@ -77,7 +77,7 @@ goes_to table firsts key at home p apart index split is there =
     }
 
 -- whether a page takes a row
-pub takes_is : (shape : RowShape) (page key : List ℕ) (at : ℕ) → 0 < shape.key → Rows (rows_in shape page) → ((at < count_of page) × (option_map (λ (r : Row). r.0) (slice_get (rows_in shape page) at) ≡ Some key)) ⊎ (end_of shape (count_of page + 1) ≤ 4096)
+pub takes_is : (shape : RowShape) (page key : List ℕ) (at : ℕ) → 0 < shape.key → RowsRise (rows_in shape page) → ((at < count_of page) × (option_map (λ (r : Row). r.0) (slice_get (rows_in shape page) at) ≡ Some key)) ⊎ (end_of shape (count_of page + 1) ≤ 4096)
     → Takes (capacity shape) key (rows_in shape page)
 takes_is shape page key at some rise (inl there) =
     let lt : at < length (rows_in shape page) = omega (arith, there.0, length-rows_in shape page) in
@@ -90,7 +90,7 @@ takes_is shape page key at some rise (inr room) =
     turned : (s : RowShape) (n : ℕ) → n * row_length s ≡ row_length s * n
     turned s n = omega arith
 
-pub takes_not : (shape : RowShape) (page key : List ℕ) (at : ℕ) → 0 < shape.key → Rows (rows_in shape page) → at ≡ place_of key (rows_in shape page)
+pub takes_not : (shape : RowShape) (page key : List ℕ) (at : ℕ) → 0 < shape.key → RowsRise (rows_in shape page) → at ≡ place_of key (rows_in shape page)
     → (((at < count_of page) × (option_map (λ (r : Row). r.0) (slice_get (rows_in shape page) at) ≡ Some key)) ⊎ (end_of shape (count_of page + 1) ≤ 4096) → ⊥) → Takes (capacity shape) key (rows_in shape page) → ⊥
 takes_not shape page key at some rise place full (inl found) =
     let none : lookup key (rows_in shape page) ≡ None = lookup_none key (rows_in shape page) (missing_at (rows_in shape page) at key rise place (λ there. full (inl (omega (arith, there.0, length-rows_in shape page), there.1)))) in

@@ -16,6 +16,7 @@ pub mod Rising
 pub mod Breaks
 pub mod Keys
 pub mod Maps
+pub mod MapLaws
 pub mod Edited
 pub mod Lookups
 pub mod NextRows

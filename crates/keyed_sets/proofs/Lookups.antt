@@ -10,11 +10,11 @@ use Rattle.std.proofs.lemmas.List.Sums.{prefix_len_passes, prefix_len_stops}
 use Rattle.keyed_sets.specs.declared.row.RowShape.{RowShape}
 use Rattle.keyed_sets.specs.declared.index.First.{First}
 use Rattle.keyed_sets.specs.Layout.{Row, rows_in, is_below, place_of}
-use Rattle.keyed_sets.specs.Map.{lookup, rows_of}
+use Rattle.keyed_sets.specs.Map.{RowsRise, lookup, rows_of}
 use Rattle.keyed_sets.specs.Rule.{KeepsRule, Rise, tables, page_rows}
 use Rattle.keyed_sets.specs.Standing.{Stands, no_first}
 use Rattle.keyed_sets.proofs.Keys.{below_itself}
-use Rattle.keyed_sets.proofs.Maps.{Rows, lookup_is, lookup_none}
+use Rattle.keyed_sets.proofs.Maps.{lookup_is, lookup_none}
 use Rattle.keyed_sets.proofs.Members.{rise_at, rise_one}
 use Rattle.keyed_sets.proofs.Openings.{IsSplit}
 use Rattle.keyed_sets.proofs.Sets.{lawful, row_in, above_split, Here, Lower, Behind, side_of}
@@ -28,12 +28,12 @@ key_at_is rows at key lt is = same_Some _ _ (sym (ap (option_map (λ (row : Row)
 pub body_at_is : (rows : List Row) (at : ℕ) (body : List ℕ) → at < length rows → option_map (λ row. row.1) (slice_get rows at) ≡ Some body → (get_or rows at nowhere).1 ≡ body
 body_at_is rows at body lt is = same_Some _ _ (sym (ap (option_map (λ (row : Row). row.1)) (slice_get-get_or rows at nowhere lt)) ∙ is)
 
-pub found_at : (rows : List Row) (at : ℕ) (key body : List ℕ) → Rows rows → at < length rows → option_map (λ row. row.0) (slice_get rows at) ≡ Some key → option_map (λ row. row.1) (slice_get rows at) ≡ Some body → Some body ≡ lookup key rows
+pub found_at : (rows : List Row) (at : ℕ) (key body : List ℕ) → RowsRise rows → at < length rows → option_map (λ row. row.0) (slice_get rows at) ≡ Some key → option_map (λ row. row.1) (slice_get rows at) ≡ Some body → Some body ≡ lookup key rows
 found_at rows at key body rise lt keyed bodied =
     sym (lookup_is key rows rise (get_or rows at nowhere) (Contains-get_or rows at nowhere lt) (key_at_is rows at key lt keyed) ∙ ap (λ (b : List ℕ). Some b) (body_at_is rows at body lt bodied))
 
 -- no row has a key that the row at its place hasn't
-pub missing_at : (rows : List Row) (at : ℕ) (key : List ℕ) → Rows rows → at ≡ place_of key rows → ((at < length rows) × (option_map (λ row. row.0) (slice_get rows at) ≡ Some key) → ⊥) → (x : Row) → Contains rows x → x.0 ≡ key → ⊥
+pub missing_at : (rows : List Row) (at : ℕ) (key : List ℕ) → RowsRise rows → at ≡ place_of key rows → ((at < length rows) × (option_map (λ row. row.0) (slice_get rows at) ≡ Some key) → ⊥) → (x : Row) → Contains rows x → x.0 ≡ key → ⊥
 missing_at rows at key rise place missing x c is =
     let here : (get_or rows c.0 x).0 ≡ key = ap (λ (r : Row). r.0) c.2 ∙ is in
     elim (cases_order c.0 at) [
@@ -66,4 +66,4 @@ nothing_found shape pages firsts empty key stands split =
     sym (lookup_none key (rows_of shape pages) (λ x c is. below_itself key (x.0) (above_all shape pages firsts empty key stands split x c) (sym is)))
 
 pub page_rises : (shape : RowShape) (pages : List (List ℕ)) (n : ℕ) (page : List ℕ) → KeepsRule shape pages → slice_get pages n ≡ Some page → Rise (rows_in shape page)
-page_rises shape pages n page rule there = rise_one (rows_in shape page) (subst Rows (page_is shape pages n page there) ((lawful shape pages rule).rise n))
+page_rises shape pages n page rule there = rise_one (rows_in shape page) (subst RowsRise (page_is shape pages n page there) ((lawful shape pages rule).rise n))

@@ -6,26 +6,22 @@ use Rattle.std.specs.Str.{bytes_eq}
 use Rattle.std.proofs.lemmas.Slice.Eq.{bytes_eq-Decides}
 use Rattle.std.proofs.lemmas.Bool.{false_from_ne_true}
 use Rattle.keyed_sets.specs.Layout.{Row, is_below}
-use Rattle.keyed_sets.specs.Map.{KeysRise, lookup, first_above, next_after, last_below, with_row, without_row, in_order}
+use Rattle.keyed_sets.specs.Map.{RowsRise, KeysRise, lookup, first_above, next_after, last_below, with_row, without_row, in_order}
 use Rattle.keyed_sets.proofs.Keys.{below_trans, below_itself, below_both, three_ways, below_false}
 use Rattle.keyed_sets.proofs.Members.{nothing_there, at_front, further, front_or, the_only}
-
--- rows whose keys rise
-abbrev pub Rows : List Row → Type 0
-Rows rows = KeysRise (λ (r : Row). r.0) rows
 
 key_of : Row → List ℕ
 key_of row = row.0
 
 -- the steps of the definitions
-same_key : (a b : List ℕ) → a ≡ b → bytes_eq a b ≡ true
+pub same_key : (a b : List ℕ) → a ≡ b → bytes_eq a b ≡ true
 same_key a b is = (bytes_eq-Decides a b).1 is
 
-other_key : (a b : List ℕ) → (a ≡ b → ⊥) → bytes_eq a b ≡ false
+pub other_key : (a b : List ℕ) → (a ≡ b → ⊥) → bytes_eq a b ≡ false
 other_key a b apart = false_from_ne_true (bytes_eq a b) (λ is. apart ((bytes_eq-Decides a b).0 is))
 
 -- of one key there is one row
-pub one_row : (rows : List Row) → Rows rows → (x y : Row) → Contains rows x → Contains rows y → x.0 ≡ y.0 → x ≡ y
+pub one_row : (rows : List Row) → RowsRise rows → (x y : Row) → Contains rows x → Contains rows y → x.0 ≡ y.0 → x ≡ y
 one_row [] rise x y c d is = absurd (nothing_there x c)
 one_row (row ∷ rows) rise x y c d is = elim (front_or row rows x c) [
   | inl here ↦ elim (front_or row rows y d) [
@@ -44,7 +40,7 @@ lookup_none key (row ∷ rows) none =
     ap (λ (b : Bool). cond b (Some (row.1)) (lookup key rows)) (other_key (row.0) key (none row (at_front row rows)))
     ∙ lookup_none key rows (λ x c. none x (further row rows x c))
 
-pub lookup_is : (key : List ℕ) (rows : List Row) → Rows rows → (x : Row) → Contains rows x → x.0 ≡ key → lookup key rows ≡ Some (x.1)
+pub lookup_is : (key : List ℕ) (rows : List Row) → RowsRise rows → (x : Row) → Contains rows x → x.0 ≡ key → lookup key rows ≡ Some (x.1)
 lookup_is key [] rise x c is = absurd (nothing_there x c)
 lookup_is key (row ∷ rows) rise x c is = elim (front_or row rows x c) [
   | inl here ↦ ap (λ (b : Bool). cond b (Some (row.1)) (lookup key rows)) (same_key (row.0) key (ap (λ (r : Row). r.0) (sym here) ∙ is)) ∙ ap (λ (r : Row). Some (r.1)) (sym here)
@@ -58,7 +54,7 @@ above_none key (row ∷ rows) none =
     ∙ above_none key rows (λ x c. none x (further row rows x c))
 
 -- the least of the rows above a key
-pub above_is : (key : List ℕ) (rows : List Row) → Rows rows → (x : Row) → Contains rows x → is_below key (x.0) ≡ true
+pub above_is : (key : List ℕ) (rows : List Row) → RowsRise rows → (x : Row) → Contains rows x → is_below key (x.0) ≡ true
     → ((y : Row) → Contains rows y → is_below key (y.0) ≡ true → is_below (y.0) (x.0) ≡ true → ⊥) → first_above key rows ≡ Some x
 above_is key [] rise x c above least = absurd (nothing_there x c)
 above_is key (row ∷ rows) rise x c above least = elim (front_or row rows x c) [
@@ -72,7 +68,7 @@ pub least_none : (rows : List Row) → ((x : Row) → Contains rows x → ⊥) �
 least_none [] none = refl
 least_none (row ∷ rows) none = absurd (none row (at_front row rows))
 
-pub least_is : (rows : List Row) → Rows rows → (x : Row) → Contains rows x → ((y : Row) → Contains rows y → is_below (y.0) (x.0) ≡ true → ⊥) → next_after None rows ≡ Some x
+pub least_is : (rows : List Row) → RowsRise rows → (x : Row) → Contains rows x → ((y : Row) → Contains rows y → is_below (y.0) (x.0) ≡ true → ⊥) → next_after None rows ≡ Some x
 least_is [] rise x c least = absurd (nothing_there x c)
 least_is (row ∷ rows) rise x c least = elim (front_or row rows x c) [
   | inl here ↦ ap (λ (r : Row). Some r) (sym here)
@@ -85,7 +81,7 @@ below_none key (row ∷ rows) none =
     ap (λ (b : Bool). cond b (option_or (last_below key rows) (Some row)) None) (false_from_ne_true (is_below (row.0) key) (none row (at_front row rows)))
 
 -- the greatest of the rows below a key
-pub below_is : (key : List ℕ) (rows : List Row) → Rows rows → (x : Row) → Contains rows x → is_below (x.0) key ≡ true
+pub below_is : (key : List ℕ) (rows : List Row) → RowsRise rows → (x : Row) → Contains rows x → is_below (x.0) key ≡ true
     → ((y : Row) → Contains rows y → is_below (y.0) key ≡ true → is_below (x.0) (y.0) ≡ true → ⊥) → last_below key rows ≡ Some x
 below_is key [] rise x c below greatest = absurd (nothing_there x c)
 below_is key (row ∷ rows) rise x c below greatest = elim (front_or row rows x c) [
@@ -112,7 +108,7 @@ row_over row next rows same =
     ap (λ (b : Bool). cond b (next ∷ with_row row rows) (cond (is_below (row.0) (next.0)) (row ∷ next ∷ rows) (row ∷ rows))) (below_false (next.0) (row.0) (λ below. below_itself (next.0) (row.0) below (sym same)))
     ∙ ap (λ (b : Bool). cond b (row ∷ next ∷ rows) (row ∷ rows)) (below_false (row.0) (next.0) (λ below. below_itself (row.0) (next.0) below same))
 
-abbrev IsAmong : Row → List Row → Row → Type 0
+abbrev pub IsAmong : Row → List Row → Row → Type 0
 IsAmong row rows x = (x ≡ row) ⊎ (Contains rows x × (x.0 ≡ row.0 → ⊥))
 
 among_more : (row next : Row) (rows : List Row) (x : Row) → is_below (next.0) (row.0) ≡ true → (x ≡ next) ⊎ IsAmong row rows x → IsAmong row (next ∷ rows) x
@@ -120,7 +116,7 @@ among_more row next rows x below (inl is) = inr (subst (Contains (next ∷ rows)
 among_more row next rows x below (inr (inl is)) = inl is
 among_more row next rows x below (inr (inr other)) = inr (further next rows x other.0, other.1)
 
-pub with_row_has : (row : Row) (rows : List Row) → Rows rows → (x : Row) → Contains (with_row row rows) x → IsAmong row rows x
+pub with_row_has : (row : Row) (rows : List Row) → RowsRise rows → (x : Row) → Contains (with_row row rows) x → IsAmong row rows x
 with_row_has row [] rise x c = inl (the_only row x c)
 with_row_has row (next ∷ rows) rise x c = elim (three_ways (next.0) (row.0)) [
   | inl below ↦ elim (front_or next (with_row row rows) x (subst (λ (l : List Row). Contains l x) (row_behind row next rows below) c)) [
@@ -165,15 +161,15 @@ with_row_old row (next ∷ rows) x c apart = elim (three_ways (next.0) (row.0)) 
   | inr (inr above) ↦ subst (λ (l : List Row). Contains l x) (sym (row_ahead row next rows above)) (further row (next ∷ rows) x c)
 ]
 
-pub with_row_rises : (row : Row) (rows : List Row) → Rows rows → Rows (with_row row rows)
+pub with_row_rises : (row : Row) (rows : List Row) → RowsRise rows → RowsRise (with_row row rows)
 with_row_rises row [] rise = (λ y c. absurd (nothing_there y c), tt)
 with_row_rises row (next ∷ rows) rise = elim (three_ways (next.0) (row.0)) [
-  | inl below ↦ subst Rows (sym (row_behind row next rows below)) (
+  | inl below ↦ subst RowsRise (sym (row_behind row next rows below)) (
     λ y c. elim (with_row_has row rows rise.1 y c) [ inl is ↦ ap (λ (r : Row). is_below (next.0) (r.0)) is ∙ below | inr other ↦ rise.0 y other.0 ],
     with_row_rises row rows rise.1,
   )
-  | inr (inl same) ↦ subst Rows (sym (row_over row next rows (sym same))) (λ y c. ap (λ (k : List ℕ). is_below k (y.0)) (sym same) ∙ rise.0 y c, rise.1)
-  | inr (inr above) ↦ subst Rows (sym (row_ahead row next rows above)) (
+  | inr (inl same) ↦ subst RowsRise (sym (row_over row next rows (sym same))) (λ y c. ap (λ (k : List ℕ). is_below k (y.0)) (sym same) ∙ rise.0 y c, rise.1)
+  | inr (inr above) ↦ subst RowsRise (sym (row_ahead row next rows above)) (
     λ y c. elim (front_or next rows y c) [ inl is ↦ ap (λ (r : Row). is_below (row.0) (r.0)) is ∙ above | inr d ↦ below_trans (row.0) (next.0) (y.0) above (rise.0 y d) ],
     rise,
   )
@@ -193,7 +189,7 @@ gone key row rows same = ap (λ (b : Bool). cond b rows (row ∷ without_row key
 pub stays : (key : List ℕ) (row : Row) (rows : List Row) → (row.0 ≡ key → ⊥) → without_row key (row ∷ rows) ≡ row ∷ without_row key rows
 stays key row rows apart = ap (λ (b : Bool). cond b rows (row ∷ without_row key rows)) (other_key (row.0) key apart)
 
-pub without_row_has : (key : List ℕ) (rows : List Row) → Rows rows → (x : Row) → Contains (without_row key rows) x → Contains rows x × (x.0 ≡ key → ⊥)
+pub without_row_has : (key : List ℕ) (rows : List Row) → RowsRise rows → (x : Row) → Contains (without_row key rows) x → Contains rows x × (x.0 ≡ key → ⊥)
 without_row_has key [] rise x c = absurd (nothing_there x c)
 without_row_has key (row ∷ rows) rise x c = elim (same_or (row.0) key) [
   | inl same ↦
@@ -218,11 +214,11 @@ without_row_old key (row ∷ rows) x c apart = elim (same_or (row.0) key) [
   ])
 ]
 
-pub without_row_rises : (key : List ℕ) (rows : List Row) → Rows rows → Rows (without_row key rows)
+pub without_row_rises : (key : List ℕ) (rows : List Row) → RowsRise rows → RowsRise (without_row key rows)
 without_row_rises key [] rise = tt
 without_row_rises key (row ∷ rows) rise = elim (same_or (row.0) key) [
-  | inl same ↦ subst Rows (sym (gone key row rows same)) rise.1
-  | inr apart ↦ subst Rows (sym (stays key row rows apart)) (λ y c. rise.0 y (without_row_has key rows rise.1 y c).0, without_row_rises key rows rise.1)
+  | inl same ↦ subst RowsRise (sym (gone key row rows same)) rise.1
+  | inr apart ↦ subst RowsRise (sym (stays key row rows apart)) (λ y c. rise.0 y (without_row_has key rows rise.1 y c).0, without_row_rises key rows rise.1)
 ]
 
 -- lists that rise are known by what is among them
@@ -248,11 +244,11 @@ same_rising {X} key (x ∷ xs) (y ∷ ys) left right to back =
     ] in
     ap (λ (r : X). r ∷ xs) first ∙ ap (λ (l : List X). y ∷ l) (same_rising key xs ys left.1 right.1 there again)
 
-pub same_rows : (a b : List Row) → Rows a → Rows b → ((x : Row) → Contains a x → Contains b x) → ((x : Row) → Contains b x → Contains a x) → a ≡ b
+pub same_rows : (a b : List Row) → RowsRise a → RowsRise b → ((x : Row) → Contains a x → Contains b x) → ((x : Row) → Contains b x → Contains a x) → a ≡ b
 same_rows a b left right to back = same_rising (λ (r : Row). r.0) a b left right to back
 
 -- rows of which no two have one key, in order
-pub in_order_rises : (rows : List Row) → Rows (in_order rows)
+pub in_order_rises : (rows : List Row) → RowsRise (in_order rows)
 in_order_rises [] = tt
 in_order_rises (row ∷ rows) = with_row_rises row (in_order rows) (in_order_rises rows)
 

@@ -11,12 +11,12 @@ use Rattle.std.proofs.lemmas.List.Sums.{prefix_len_passes, prefix_len_stops}
 use Rattle.keyed_sets.specs.declared.row.RowShape.{RowShape}
 use Rattle.keyed_sets.specs.declared.index.First.{First}
 use Rattle.keyed_sets.specs.Layout.{Row, is_below, place_of}
-use Rattle.keyed_sets.specs.Map.{KeysRise, first_above, next_after, last_below, rows_of}
+use Rattle.keyed_sets.specs.Map.{RowsRise, KeysRise, first_above, next_after, last_below, rows_of}
 use Rattle.keyed_sets.specs.Rule.{tables, page_rows}
 use Rattle.keyed_sets.specs.Standing.{StartsWith, IsIndex, Stands, no_first}
 use Rattle.keyed_sets.specs.Taken.{AreApart}
 use Rattle.keyed_sets.proofs.Keys.{below_both, below_itself, below_trans, below_false, below_upto, three_ways}
-use Rattle.keyed_sets.proofs.Maps.{Rows, above_is, above_none, least_is, least_none, below_is, below_none}
+use Rattle.keyed_sets.proofs.Maps.{above_is, above_none, least_is, least_none, below_is, below_none}
 use Rattle.keyed_sets.proofs.Members.{nothing_there, at_front, further, front_or, rise_at}
 use Rattle.keyed_sets.proofs.Tables.{from_first}
 use Rattle.keyed_sets.proofs.Openings.{IsSplit, before_by_first}
@@ -35,7 +35,7 @@ pub row_is : (rows : List Row) (at : ℕ) (key body k b : List ℕ) → k ≡ ke
 row_is rows at key body k b same too keyed bodied = both_parts (slice_get rows at) k b (keyed ∙ ap (λ (x : List ℕ). Some x) (sym same)) (bodied ∙ ap (λ (x : List ℕ). Some x) (sym too))
 
 -- the rows that aren't above a key, where its row is there and where it isn't
-pub past_found : (rows : List Row) (at : ℕ) (key : List ℕ) → Rows rows → at ≡ place_of key rows → at < length rows → option_map (λ row. row.0) (slice_get rows at) ≡ Some key
+pub past_found : (rows : List Row) (at : ℕ) (key : List ℕ) → RowsRise rows → at ≡ place_of key rows → at < length rows → option_map (λ row. row.0) (slice_get rows at) ≡ Some key
     → AllWithin (λ (row : Row). is_below key (row.0) ≡ false) rows 0 (at + 1) × AllWithin (λ (row : Row). is_below key (row.0) ≡ true) rows (at + 1) (length rows)
 past_found rows at key rise place lt keyed = (
   λ k d low high. elim (cases_eq k at) [
@@ -48,7 +48,7 @@ past_found rows at key rise place lt keyed = (
     here : (d : Row) → (get_or rows at d).0 ≡ key
     here d = same_Some _ _ (sym (ap (option_map (λ (row : Row). row.0)) (slice_get-get_or rows at d lt)) ∙ keyed)
 
-pub past_missing : (rows : List Row) (at : ℕ) (key : List ℕ) → Rows rows → at ≡ place_of key rows → ((at < length rows) × (option_map (λ row. row.0) (slice_get rows at) ≡ Some key) → ⊥)
+pub past_missing : (rows : List Row) (at : ℕ) (key : List ℕ) → RowsRise rows → at ≡ place_of key rows → ((at < length rows) × (option_map (λ row. row.0) (slice_get rows at) ≡ Some key) → ⊥)
     → AllWithin (λ (row : Row). is_below key (row.0) ≡ false) rows 0 at × AllWithin (λ (row : Row). is_below key (row.0) ≡ true) rows at (length rows)
 past_missing rows at key rise place missing = (
   λ k d low high. below_false key ((get_or rows k d).0) (λ above. below_both key ((get_or rows k d).0) above (prefix_len_passes (λ (row : Row). is_below (row.0) key) rows k d (omega (arith, place)))),
@@ -66,7 +66,7 @@ past_missing rows at key rise place missing = (
 )
 
 -- the first row above a key among rows of which so many aren't
-pub first_past : (rows : List Row) (past : ℕ) (key : List ℕ) (row : Row) → Rows rows → AllWithin (λ (row : Row). is_below key (row.0) ≡ false) rows 0 past → AllWithin (λ (row : Row). is_below key (row.0) ≡ true) rows past (length rows)
+pub first_past : (rows : List Row) (past : ℕ) (key : List ℕ) (row : Row) → RowsRise rows → AllWithin (λ (row : Row). is_below key (row.0) ≡ false) rows 0 past → AllWithin (λ (row : Row). is_below key (row.0) ≡ true) rows past (length rows)
     → slice_get rows past ≡ Some row → Some row ≡ first_above key rows
 first_past rows past key row rise upto above there =
     let within : past < length rows = slice_get_within rows past row there in
@@ -87,7 +87,7 @@ first_step : (b : Bool) (row r : Row) (rest : Option Row) → cond b (Some row) 
 first_step true row r rest is = inl (refl, sym (same_Some _ _ is))
 first_step false row r rest is = inr (refl, is)
 
-pub found_above : (key : List ℕ) (rows : List Row) (r : Row) → Rows rows → first_above key rows ≡ Some r → Contains rows r × (is_below key (r.0) ≡ true) × ((y : Row) → Contains rows y → is_below key (y.0) ≡ true → is_below (y.0) (r.0) ≡ true → ⊥)
+pub found_above : (key : List ℕ) (rows : List Row) (r : Row) → RowsRise rows → first_above key rows ≡ Some r → Contains rows r × (is_below key (r.0) ≡ true) × ((y : Row) → Contains rows y → is_below key (y.0) ≡ true → is_below (y.0) (r.0) ≡ true → ⊥)
 found_above key [] r rise is = absurd (none-some r is)
 found_above key (row ∷ rows) r rise is = elim (first_step (is_below key (row.0)) row r (first_above key rows) is) [
   | inl here ↦ (

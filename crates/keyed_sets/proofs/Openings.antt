@@ -8,13 +8,12 @@ use Rattle.std.proofs.lemmas.List.{length_push}
 use Rattle.std.proofs.lemmas.List.Elements.{Contains-get_or}
 use Rattle.keyed_sets.specs.declared.index.First.{First}
 use Rattle.keyed_sets.specs.Layout.{Row, is_below}
-use Rattle.keyed_sets.specs.Map.{KeysRise}
+use Rattle.keyed_sets.specs.Map.{RowsRise, KeysRise}
 use Rattle.keyed_sets.specs.Rule.{page_rows}
 use Rattle.keyed_sets.specs.Standing.{Apart, AllBelow, StartsWith, IsIndex, no_first}
 use Rattle.keyed_sets.specs.Index.{empty_numbers}
 use Rattle.keyed_sets.specs.Taken.{EndsWith, AreApart, AreTaken}
 use Rattle.keyed_sets.proofs.Keys.{below_both, below_itself, below_false, below_upto, upto_below, three_ways}
-use Rattle.keyed_sets.proofs.Maps.{Rows}
 use Rattle.keyed_sets.proofs.Members.{nothing_there, at_front, rise_at}
 use Rattle.keyed_sets.proofs.Edited.{put_or, put_new, put_old, put_rises, holds_before, holds_behind, from_take, zip_put, zip_weaker, zip_at, zip_back, some_and}
 use Rattle.keyed_sets.proofs.Tables.{page_past, page_old, page_new, row_within, page_or, apart_turned, apart_none, first_row, last_row, from_first, upto_last, below_by_first}
@@ -30,7 +29,7 @@ pub record IsSplit (key : List ℕ) (firsts : List First) (at : ℕ) : Type 0 wh
 
 -- rows that begin and end with these keys
 pub record IsRange (first last : List ℕ) (rows : List Row) : Type 0 where
-  pub rise : Rows rows
+  pub rise : RowsRise rows
   pub starts : StartsWith first rows
   pub ends : EndsWith last rows
 
@@ -161,9 +160,9 @@ by_place table rows P n old new past = elim (cases_order n (length table)) [
   | inr (inr gt) ↦ subst P (sym (page_past (table ++ rows ∷ []) n (omega (arith, length_push table rows)))) past
 ]
 
-pub apart_more : (table : List (List Row)) (rows : List Row) → AreApart table → Rows rows → ((m : ℕ) → Apart (page_rows table m) rows) → AreApart (table ++ rows ∷ [])
+pub apart_more : (table : List (List Row)) (rows : List Row) → AreApart table → RowsRise rows → ((m : ℕ) → Apart (page_rows table m) rows) → AreApart (table ++ rows ∷ [])
 apart_more table rows lawful rise clear = record {
-  rise = λ n. by_place table rows Rows n (λ lt. lawful.rise n) (λ is. rise) tt;
+  rise = λ n. by_place table rows RowsRise n (λ lt. lawful.rise n) (λ is. rise) tt;
   apart = λ m n other. by_place table rows (λ l. Apart l (page_rows (table ++ rows ∷ []) n)) m
       (λ lt. by_place table rows (Apart (page_rows table m)) n (λ less. lawful.apart m n other) (λ is. clear m) (apart_turned [] (page_rows table m) (apart_none [] (page_rows table m) refl)))
       (λ is. apart_turned (page_rows (table ++ rows ∷ []) n) rows (by_place table rows (λ l. Apart l rows) n (λ lt. clear n) (λ same. absurd (other (is ∙ sym same))) (apart_none [] rows refl)))
@@ -171,7 +170,7 @@ apart_more table rows lawful rise clear = record {
 }
 
 -- the index with one page more
-index_more : (table : List (List Row)) (firsts : List First) (at : ℕ) (new : First) (rows : List Row) → AreApart table → IsIndex table firsts → IsSplit new.key firsts at → Rows rows → StartsWith new.key rows → new.page ≡ length table
+index_more : (table : List (List Row)) (firsts : List First) (at : ℕ) (new : First) (rows : List Row) → AreApart table → IsIndex table firsts → IsSplit new.key firsts at → RowsRise rows → StartsWith new.key rows → new.page ≡ length table
     → ((m : ℕ) → Apart (page_rows table m) rows) → IsIndex (table ++ rows ∷ []) (insert firsts at new)
 index_more table firsts at new rows lawful index split rise starts page clear = record {
   starts = λ f c. elim (put_or firsts at new f c) [

@@ -9,13 +9,13 @@ use Rattle.keyed_sets.specs.declared.row.RowShape.{RowShape}
 use Rattle.keyed_sets.specs.declared.index.First.{First}
 use Rattle.keyed_sets.specs.Changes.{placed}
 use Rattle.keyed_sets.specs.Layout.{Row, rows_in, is_below, PutsRows}
-use Rattle.keyed_sets.specs.Map.{KeysRise, rows_of, with_row, without_row}
+use Rattle.keyed_sets.specs.Map.{RowsRise, KeysRise, rows_of, with_row, without_row}
 use Rattle.keyed_sets.specs.Rule.{IsRowPage, KeepsRule, Rise, tables, page_rows}
 use Rattle.keyed_sets.specs.Standing.{Apart, StartsWith, IsIndex}
 use Rattle.keyed_sets.specs.Taken.{AreApart}
 use Rattle.keyed_sets.proofs.Aparts.{apart_to}
 use Rattle.keyed_sets.proofs.Keys.{below_itself}
-use Rattle.keyed_sets.proofs.Maps.{Rows, same_rows, with_row_has, with_row_new, with_row_old, with_row_rises, without_row_has, without_row_old, without_row_rises}
+use Rattle.keyed_sets.proofs.Maps.{same_rows, with_row_has, with_row_new, with_row_old, with_row_rises, without_row_has, without_row_old, without_row_rises}
 use Rattle.keyed_sets.proofs.Members.{nothing_there, at_front, further, front_or, rise-append, rise-left, rise-right, rise-between}
 use Rattle.keyed_sets.proofs.Tables.{apart_turned}
 use Rattle.keyed_sets.proofs.Sets.{IsIn, row_in, in_rows, rows_rise}
@@ -47,11 +47,11 @@ placed_or n rows table le m x c = elim (cases_eq m n) [
   | inr other ↦ inr (other, subst (λ (l : List Row). Contains l x) (placed_other n rows table m le other) c)
 ]
 
-pub apart_placed : (n : ℕ) (rows : List Row) (table : List (List Row)) → n ≤ length table → AreApart table → Rows rows → ((m : ℕ) → (m ≡ n → ⊥) → Apart (page_rows table m) rows) → AreApart (placed n rows table)
+pub apart_placed : (n : ℕ) (rows : List Row) (table : List (List Row)) → n ≤ length table → AreApart table → RowsRise rows → ((m : ℕ) → (m ≡ n → ⊥) → Apart (page_rows table m) rows) → AreApart (placed n rows table)
 apart_placed n rows table le apart rise clear = record {
   rise = λ m. elim (cases_eq m n) [
-    | inl same ↦ subst Rows (sym (ap (page_rows (placed n rows table)) same ∙ placed_here n rows table le)) rise
-    | inr other ↦ subst Rows (sym (placed_other n rows table m le other)) (apart.rise m)
+    | inl same ↦ subst RowsRise (sym (ap (page_rows (placed n rows table)) same ∙ placed_here n rows table le)) rise
+    | inr other ↦ subst RowsRise (sym (placed_other n rows table m le other)) (apart.rise m)
   ];
   apart = λ a b other. elim (cases_eq a n) [
     | inl first ↦

@@ -10,20 +10,20 @@ use Rattle.std.proofs.lemmas.List.Elements.{Contains-get_or}
 use Rattle.keyed_sets.specs.declared.row.RowShape.{RowShape}
 use Rattle.keyed_sets.specs.declared.index.First.{First}
 use Rattle.keyed_sets.specs.Layout.{Row, rows_in, count_of, is_below, place_of, PutsRows}
-use Rattle.keyed_sets.specs.Map.{with_row}
+use Rattle.keyed_sets.specs.Map.{RowsRise, with_row}
 use Rattle.keyed_sets.specs.Places.{nearer, IsHome}
 use Rattle.keyed_sets.specs.Rule.{page_rows}
 use Rattle.keyed_sets.specs.Standing.{AllBelow, StartsWith, IsIndex}
 use Rattle.keyed_sets.specs.Taken.{AreApart}
 use Rattle.keyed_sets.proofs.Keys.{below_both, below_false, below_upto, three_ways}
-use Rattle.keyed_sets.proofs.Maps.{Rows, row_behind, row_ahead, row_over}
+use Rattle.keyed_sets.proofs.Maps.{row_behind, row_ahead, row_over}
 use Rattle.keyed_sets.proofs.Members.{at_front, further, rise_at}
 use Rattle.keyed_sets.proofs.Tables.{first_row}
 use Rattle.keyed_sets.proofs.Openings.{IsSplit, nothing_or, before_by_first}
 use Rattle.keyed_sets.proofs.Sets.{above_split}
 
 -- a row whose key isn't there, at its place
-pub insert_is : (row : Row) (rows : List Row) → Rows rows → ((x : Row) → Contains rows x → x.0 ≡ row.0 → ⊥) → insert rows (place_of (row.0) rows) row ≡ with_row row rows
+pub insert_is : (row : Row) (rows : List Row) → RowsRise rows → ((x : Row) → Contains rows x → x.0 ≡ row.0 → ⊥) → insert rows (place_of (row.0) rows) row ≡ with_row row rows
 insert_is row [] rise none = refl
 insert_is row (next ∷ rows) rise none = elim (three_ways (next.0) (row.0)) [
   | inl below ↦
@@ -38,7 +38,7 @@ insert_is row (next ∷ rows) rise none = elim (three_ways (next.0) (row.0)) [
 ]
 
 -- and one over the row of its key
-pub replaced_is : (row : Row) (rows : List Row) (at : ℕ) (d : Row) → Rows rows → at < length rows → (get_or rows at d).0 ≡ row.0 → set rows at row ≡ with_row row rows
+pub replaced_is : (row : Row) (rows : List Row) (at : ℕ) (d : Row) → RowsRise rows → at < length rows → (get_or rows at d).0 ≡ row.0 → set rows at row ≡ with_row row rows
 replaced_is row [] at d rise lt is = absurd (omega (arith, lt))
 replaced_is row (next ∷ rows) zero d rise lt is = sym (row_over row next rows (sym is))
 replaced_is row (next ∷ rows) (suc at) d rise lt is =
@@ -121,13 +121,13 @@ pub home_is : (table : List (List Row)) (firsts : List First) (key : List ℕ) (
 home_is table firsts key at home p apart index near =
     inr (λ m other. near_by key (page_rows table p.page) (page_rows table m) p.key (index.starts p (home, near.within, near.is)) (beside_page table firsts key at home p apart index near m other))
 
-pub sets_over : (shape : RowShape) (old new : List ℕ) (at : ℕ) (row : Row) → Rows (rows_in shape old) → at < count_of old → option_map (λ (r : Row). r.0) (slice_get (rows_in shape old) at) ≡ Some (row.0)
+pub sets_over : (shape : RowShape) (old new : List ℕ) (at : ℕ) (row : Row) → RowsRise (rows_in shape old) → at < count_of old → option_map (λ (r : Row). r.0) (slice_get (rows_in shape old) at) ≡ Some (row.0)
     → PutsRows shape old new (set (rows_in shape old) at row) → PutsRows shape old new (with_row row (rows_in shape old))
 sets_over shape old new at row rise lt keyed puts =
     let within : at < length (rows_in shape old) = omega (arith, lt, length-rows_in shape old) in
     subst (PutsRows shape old new) (replaced_is row (rows_in shape old) at nowhere rise within (key_at_is (rows_in shape old) at (row.0) within keyed)) puts
 
-pub sets_new : (shape : RowShape) (old new : List ℕ) (at : ℕ) (row : Row) → Rows (rows_in shape old) → at ≡ place_of (row.0) (rows_in shape old)
+pub sets_new : (shape : RowShape) (old new : List ℕ) (at : ℕ) (row : Row) → RowsRise (rows_in shape old) → at ≡ place_of (row.0) (rows_in shape old)
     → ((at < count_of old) × (option_map (λ (r : Row). r.0) (slice_get (rows_in shape old) at) ≡ Some (row.0)) → ⊥) → PutsRows shape old new (insert (rows_in shape old) at row) → PutsRows shape old new (with_row row (rows_in shape old))
 sets_new shape old new at row rise place missing puts =
     let rows : List Row = rows_in shape old in

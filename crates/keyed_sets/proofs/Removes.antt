@@ -10,13 +10,13 @@ use Rattle.keyed_sets.specs.declared.row.RowShape.{RowShape}
 use Rattle.keyed_sets.specs.declared.index.First.{First}
 use Rattle.keyed_sets.specs.Changes.{placed}
 use Rattle.keyed_sets.specs.Layout.{Row, rows_in, is_below, PutsRows}
-use Rattle.keyed_sets.specs.Map.{without_row}
+use Rattle.keyed_sets.specs.Map.{RowsRise, without_row}
 use Rattle.keyed_sets.specs.Rule.{IsRowPage, KeepsRule, tables, page_rows}
 use Rattle.keyed_sets.specs.Standing.{Apart, StartsWith, IsIndex, Stands, with_number}
 use Rattle.keyed_sets.specs.Index.{empty_numbers}
 use Rattle.keyed_sets.specs.Taken.{AreApart}
 use Rattle.keyed_sets.proofs.Keys.{below_itself}
-use Rattle.keyed_sets.proofs.Maps.{Rows, gone, stays}
+use Rattle.keyed_sets.proofs.Maps.{gone, stays}
 use Rattle.keyed_sets.proofs.Members.{nothing_there, at_front, rise_one}
 use Rattle.keyed_sets.proofs.Tables.{first_row}
 use Rattle.keyed_sets.proofs.Sets.{IsIn, lawful}
@@ -24,7 +24,7 @@ use Rattle.keyed_sets.proofs.Numbers.{numbers_same, numbers_left}
 use Rattle.keyed_sets.proofs.Placing.{placed_here, placed_other, apart_placed, index_set, index_removed, row_page_put, rule_from, set_placed}
 
 -- the row at a place is the row of its key
-pub remove_is : (rows : List Row) (at : ℕ) (key : List ℕ) (d : Row) → Rows rows → at < length rows → (get_or rows at d).0 ≡ key → remove rows at ≡ without_row key rows
+pub remove_is : (rows : List Row) (at : ℕ) (key : List ℕ) (d : Row) → RowsRise rows → at < length rows → (get_or rows at d).0 ≡ key → remove rows at ≡ without_row key rows
 remove_is [] at key d rise lt is = absurd (omega (arith, lt))
 remove_is (row ∷ rows) zero key d rise lt is = sym (gone key row rows is)
 remove_is (row ∷ rows) (suc at) key d rise lt is =
@@ -80,7 +80,7 @@ pub record Written (shape : RowShape) (pages : List (List ℕ)) (firsts : List F
   pub is : get_or firsts at p ≡ p
   pub read : slice_get pages p.page ≡ Some page
   pub puts : PutsRows shape page page2 rows
-  pub rise : Rows rows
+  pub rise : RowsRise rows
   pub clear : (m : ℕ) → (m ≡ p.page → ⊥) → Apart (page_rows (tables shape pages) m) rows
 
 pub written_table : (shape : RowShape) (pages : List (List ℕ)) (firsts : List First) (empty : List ℕ) (at : ℕ) (p : First) (page page2 : List ℕ) (rows : List Row) → Written shape pages firsts empty at p page page2 rows

@@ -8,13 +8,13 @@ use Rattle.std.proofs.lemmas.List.Elements.{Contains-get_or, Contains-append_lef
 use Rattle.keyed_sets.specs.declared.row.RowShape.{RowShape}
 use Rattle.keyed_sets.specs.declared.index.First.{First}
 use Rattle.keyed_sets.specs.Layout.{Row, rows_in, is_below}
-use Rattle.keyed_sets.specs.Map.{lookup, rows_of}
+use Rattle.keyed_sets.specs.Map.{RowsRise, lookup, rows_of}
 use Rattle.keyed_sets.specs.Rule.{KeepsRule, tables, page_rows}
 use Rattle.keyed_sets.specs.Standing.{IsIndex}
 use Rattle.keyed_sets.specs.Taken.{AreApart}
 use Rattle.keyed_sets.proofs.Aparts.{apart_from}
 use Rattle.keyed_sets.proofs.Keys.{below_itself, below_upto, three_ways}
-use Rattle.keyed_sets.proofs.Maps.{Rows, one_row, lookup_is, lookup_none, in_order_rises, in_order_has, in_order_all}
+use Rattle.keyed_sets.proofs.Maps.{one_row, lookup_is, lookup_none, in_order_rises, in_order_has, in_order_all}
 use Rattle.keyed_sets.proofs.Members.{nothing_there, at_front, further, front_or, rise_all, rise_at}
 use Rattle.keyed_sets.proofs.Tables.{page_past, apart_turned, apart_none, first_row, from_first}
 use Rattle.keyed_sets.proofs.Openings.{IsSplit, before_by_first}
@@ -26,8 +26,8 @@ IsIn table row = (n : ℕ) × Contains (page_rows table n) row
 pub lawful : (shape : RowShape) (pages : List (List ℕ)) → KeepsRule shape pages → AreApart (tables shape pages)
 lawful shape pages rule = record {
   rise = λ n. elim (cases_lt n (length pages)) [
-    | inl lt ↦ subst Rows (sym (get_or-map (rows_in shape) pages n [] [] lt)) (rise_all (rows_in shape (get_or pages n [])) (rule.each n [] lt).rising)
-    | inr le ↦ subst Rows (sym (page_past (tables shape pages) n (omega (arith, length-map pages (rows_in shape))))) tt
+    | inl lt ↦ subst RowsRise (sym (get_or-map (rows_in shape) pages n [] [] lt)) (rise_all (rows_in shape (get_or pages n [])) (rule.each n [] lt).rising)
+    | inr le ↦ subst RowsRise (sym (page_past (tables shape pages) n (omega (arith, length-map pages (rows_in shape))))) tt
   ];
   apart = λ m n other. elim (cases_lt m (length pages)) [
     | inl first ↦ elim (cases_lt n (length pages)) [
@@ -77,7 +77,7 @@ pub in_rows : (shape : RowShape) (pages : List (List ℕ)) → AreApart (tables 
 in_rows shape pages apart x c =
     in_order_all (flat_map (rows_in shape) pages) (λ y z d e. one_in (tables shape pages) apart y z (flat_has shape pages y d) (flat_has shape pages z e)) x (flat_of shape pages c.0 x c.1)
 
-pub rows_rise : (shape : RowShape) (pages : List (List ℕ)) → Rows (rows_of shape pages)
+pub rows_rise : (shape : RowShape) (pages : List (List ℕ)) → RowsRise (rows_of shape pages)
 rows_rise shape pages = in_order_rises (flat_map (rows_in shape) pages)
 
 -- a row of this key, or none
@@ -94,7 +94,7 @@ has_or key (row ∷ rows) = elim (three_ways (row.0) key) [
     other apart (inl found) = inl (found.0, further row rows found.0 found.1, found.2)
     other apart (inr none) = inr (λ x c is. elim (front_or row rows x c) [ inl here ↦ apart (ap (λ (r : Row). r.0) (sym here) ∙ is) | inr d ↦ none x d is ])
 
-pub same_lookup : (key : List ℕ) (all some : List Row) → Rows all → Rows some → ((x : Row) → Contains some x → Contains all x) → ((x : Row) → Contains all x → x.0 ≡ key → Contains some x) → lookup key some ≡ lookup key all
+pub same_lookup : (key : List ℕ) (all some : List Row) → RowsRise all → RowsRise some → ((x : Row) → Contains some x → Contains all x) → ((x : Row) → Contains all x → x.0 ≡ key → Contains some x) → lookup key some ≡ lookup key all
 same_lookup key all some rise risen to back = elim (has_or key some) [
   | inl found ↦ lookup_is key some risen found.0 found.1 found.2 ∙ sym (lookup_is key all rise found.0 (to found.0 found.1) found.2)
   | inr none ↦ lookup_none key some none ∙ sym (lookup_none key all (λ x c is. none x (back x c is) is))

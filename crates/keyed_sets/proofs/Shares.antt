@@ -13,14 +13,14 @@ use Rattle.keyed_sets.specs.declared.row.RowShape.{RowShape}
 use Rattle.keyed_sets.specs.declared.index.First.{First}
 use Rattle.keyed_sets.specs.Changes.{placed}
 use Rattle.keyed_sets.specs.Layout.{Row, rows_in, is_below, place_of, PutsRows}
-use Rattle.keyed_sets.specs.Map.{rows_of, with_row}
+use Rattle.keyed_sets.specs.Map.{RowsRise, rows_of, with_row}
 use Rattle.keyed_sets.specs.Places.{Takes, lower_half, upper_half, begins_upto, kept_rows, moved_rows, first_or, second_page}
 use Rattle.keyed_sets.specs.Rule.{Rise, capacity, tables, page_rows}
 use Rattle.keyed_sets.specs.PageFacts.{Split, middle}
 use Rattle.keyed_sets.specs.Goes.{IsSplitAt, IsFull}
 use Rattle.keyed_sets.specs.Standing.{StartsWith, Stands}
 use Rattle.keyed_sets.proofs.Keys.{below_both, below_false, below_trans, not_below}
-use Rattle.keyed_sets.proofs.Maps.{Rows, lookup_is}
+use Rattle.keyed_sets.proofs.Maps.{lookup_is}
 use Rattle.keyed_sets.proofs.Members.{rise_all, rise_at}
 use Rattle.keyed_sets.proofs.Rows.{length-rows_in}
 use Rattle.keyed_sets.proofs.Lookups.{nowhere, page_is, page_rises}
@@ -63,7 +63,7 @@ up_begins : (key : List ℕ) (rows : List Row) → middle rows < length rows →
 up_begins key rows within lt =
     begins_true key (get_or rows (middle rows) nowhere) (drop (middle rows + 1) rows) (upper_half rows) (drop_more rows (middle rows) nowhere within) (prefix_len_passes (λ (row : Row). is_below (row.0) key) rows (middle rows) nowhere lt)
 
-down_begins : (key : List ℕ) (rows : List Row) → Rows rows → ((x : Row) → Contains rows x → x.0 ≡ key → ⊥) → middle rows < length rows → place_of key rows ≤ middle rows → begins_upto key (upper_half rows) ≡ false
+down_begins : (key : List ℕ) (rows : List Row) → RowsRise rows → ((x : Row) → Contains rows x → x.0 ≡ key → ⊥) → middle rows < length rows → place_of key rows ≤ middle rows → begins_upto key (upper_half rows) ≡ false
 down_begins key rows rise none within le =
     let q : ℕ = place_of key rows in
     let inside : q < length rows = omega (arith, le, within) in
@@ -81,7 +81,7 @@ pub record Shared (shape : RowShape) (page page2 second second2 : List ℕ) (row
   pub keeps : PutsRows shape page page2 (kept_rows row (rows_in shape page))
   pub moves : PutsRows shape second second2 (moved_rows row (rows_in shape page))
 
-pub shares : (shape : RowShape) (page page2 second second2 : List ℕ) (row : Row) (at : ℕ) → Rows (rows_in shape page) → ((x : Row) → Contains (rows_in shape page) x → x.0 ≡ row.0 → ⊥) → at ≡ place_of (row.0) (rows_in shape page)
+pub shares : (shape : RowShape) (page page2 second second2 : List ℕ) (row : Row) (at : ℕ) → RowsRise (rows_in shape page) → ((x : Row) → Contains (rows_in shape page) x → x.0 ≡ row.0 → ⊥) → at ≡ place_of (row.0) (rows_in shape page)
     → Split shape page page2 second second2 row at → Shared shape page page2 second second2 row
 shares shape page page2 second second2 row at rise none found s =
     let rows : List Row = rows_in shape page in
@@ -131,7 +131,7 @@ pub halved_at : (shape : RowShape) (pages : List (List ℕ)) (told2 : Option (Li
     → Halved shape pages firsts home p n rest page page2 second second2 row
 halved_at shape pages told2 firsts n rest home p page page2 second second2 row at t =
     let rises = page_rises shape pages p.page page t.stands.rule t.read in
-    let rise : Rows (rows_in shape page) = rise_all (rows_in shape page) rises in
+    let rise : RowsRise (rows_in shape page) = rise_all (rows_in shape page) rises in
     let shared = shares shape page page2 second second2 row at rise
     (λ x c is. t.full.full (subst (Takes (capacity shape) (row.0)) (sym (page_is shape pages p.page page t.read)) (inl (ap is_some (lookup_is (row.0) (rows_in shape page) rise x c is))))) (t.place rises) t.split in
     record { stands = t.stands; within = t.within; is = t.is; read = t.read; found = t.found n refl; keeps = shared.keeps; moves = shared.moves; full = t.full }

@@ -2,6 +2,7 @@
 use Rattle.std.proofs.Common.{◌≡◌, ◌⊎◌, ℕ, ◌+◌, ◌<◌, Bool, true, false, cond, List, [], ◌∷◌, length, get_or, take, drop, set, Some, inl, inr, refl, sym, ap, subst, ◌∙◌}
 use Rattle.std.specs.Prelude.{Contains, ◌||◌, slice_get}
 use Rattle.std.proofs.lemmas.Bool.{both_ways, cases_Bool, or_cases}
+use Rattle.keyed_sets.specs.Map.{RowsRise}
 use Rattle.keyed_sets.specs.declared.row.RowShape.{RowShape}
 use Rattle.keyed_sets.specs.declared.index.First.{First}
 use Rattle.keyed_sets.specs.Layout.{Row, rows_in, is_below, PutsRows}
@@ -10,7 +11,6 @@ use Rattle.keyed_sets.specs.Rule.{tables, page_rows}
 use Rattle.keyed_sets.specs.Standing.{Apart, AllBelow, StartsWith, Stands}
 use Rattle.keyed_sets.specs.Taken.{AreApart}
 use Rattle.keyed_sets.proofs.Keys.{below_both, below_itself, below_upto, upto_below, below_trans}
-use Rattle.keyed_sets.proofs.Maps.{Rows}
 use Rattle.keyed_sets.proofs.Members.{nothing_there, at_front}
 use Rattle.keyed_sets.proofs.Tables.{first_row, from_first, apart_turned, apart_none}
 use Rattle.keyed_sets.proofs.Sets.{lawful}
@@ -20,14 +20,14 @@ use Rattle.keyed_sets.proofs.Removes.{Written, written_stands, page_some}
 use Rattle.keyed_sets.proofs.Putting.{Beside, Under, Over}
 
 -- a key's page and the others
-over_first : (k : List ℕ) (b : Row) (others : List Row) → Rows (b ∷ others) → is_below k (b.0) ≡ true → (x : Row) → Contains (b ∷ others) x → is_below k (x.0) ≡ true
+over_first : (k : List ℕ) (b : Row) (others : List Row) → RowsRise (b ∷ others) → is_below k (b.0) ≡ true → (x : Row) → Contains (b ∷ others) x → is_below k (x.0) ≡ true
 over_first k b others rise over x c = below_upto k (b.0) (x.0) over (from_first (b.0) (b ∷ others) rise refl x c)
 
 ordered : (a : Row) (p : List Row) (b : Row) (q : List Row) → Apart (b ∷ q) (a ∷ p) → is_below (a.0) (b.0) ≡ true → AllBelow (a ∷ p) (b ∷ q)
 ordered a p b q (inl below) less = absurd (below_both (a.0) (b.0) less (below b a (at_front b q) (at_front a p)))
 ordered a p b q (inr above) less = above
 
-besides : (key : List ℕ) (p q : List Row) → Rows p → Rows q → Apart q p → nearer key p q ≡ true → (q ≡ []) ⊎ Beside key p q
+besides : (key : List ℕ) (p q : List Row) → RowsRise p → RowsRise q → Apart q p → nearer key p q ≡ true → (q ≡ []) ⊎ Beside key p q
 besides key [] q rise risen apart near = absurd (both_ways false refl near)
 besides key (a ∷ p) [] rise risen apart near = inl refl
 besides key (a ∷ p) (b ∷ q) rise risen apart near = elim (cases_Bool (is_below key (a.0))) [
@@ -95,7 +95,7 @@ pub record Part (shape : RowShape) (pages : List (List ℕ)) (firsts : List Firs
   pub is : get_or firsts home p ≡ p
   pub read : slice_get pages p.page ≡ Some page
   pub puts : PutsRows shape page page2 part
-  pub rise : Rows part
+  pub rise : RowsRise part
   pub has : (x : Row) → Contains part x → (x ≡ row) ⊎ Contains (rows_in shape page) x
   pub near : IsHome (row.0) (tables shape pages) p.page
 

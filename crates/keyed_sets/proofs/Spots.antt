@@ -12,7 +12,7 @@ use Rattle.keyed_sets.specs.declared.seek.Spot.{Spot}
 use Rattle.keyed_sets.specs.declared.set.KeyedSet.{KeyedSet}
 use Rattle.keyed_sets.specs.Calls.{IsOpened}
 use Rattle.keyed_sets.specs.Layout.{Row, rows_in, count_of, end_of, is_below, place_of}
-use Rattle.keyed_sets.specs.Map.{lookup, rows_of}
+use Rattle.keyed_sets.specs.Map.{RowsRise, lookup, rows_of}
 use Rattle.keyed_sets.specs.Places.{HasNoRows, Takes, NeedsPage, NoPage, NoneEmpty}
 use Rattle.keyed_sets.specs.Rule.{capacity, tables, page_rows}
 use Rattle.keyed_sets.specs.Index.{empty_numbers}
@@ -22,7 +22,7 @@ use Rattle.keyed_sets.specs.Reading.{IsSought, home_page}
 use Rattle.keyed_sets.specs.Standing.{Stands, no_first}
 use Rattle.keyed_sets.specs.Writing.{first_at}
 use Rattle.keyed_sets.proofs.Keys.{below_itself}
-use Rattle.keyed_sets.proofs.Maps.{Rows, lookup_is, lookup_none}
+use Rattle.keyed_sets.proofs.Maps.{lookup_is, lookup_none}
 use Rattle.keyed_sets.proofs.Members.{nothing_there, rise_all}
 use Rattle.keyed_sets.proofs.Rows.{length-rows_in}
 use Rattle.keyed_sets.proofs.Sets.{IsIn, lawful, row_in, in_rows, rows_rise, same_lookup}
@@ -43,7 +43,7 @@ pub record At (set : KeyedSet) (key : List ℕ) (spot : Spot) (page : List ℕ) 
   pub read : slice_get pages (home_page set spot) ≡ Some page
   pub place : spot.at ≡ place_of key (rows_in set.shape page)
   pub rows : page_rows (tables set.shape pages) (home_page set spot) ≡ rows_in set.shape page
-  pub rise : Rows (rows_in set.shape page)
+  pub rise : RowsRise (rows_in set.shape page)
   pub found : spot.found ≡ true → HasKeyAt set.shape page spot.at key
   pub missing : spot.found ≡ false → HasKeyAt set.shape page spot.at key → ⊥
 

@@ -5,12 +5,12 @@ use Rattle.std.specs.Option.{option_map}
 use Rattle.std.proofs.lemmas.Option.{same_Some, none-some}
 use Rattle.std.proofs.lemmas.Bool.{cases_order, cases_lt}
 use Rattle.std.proofs.lemmas.List.{get_or_append_left, get_or_push, get_or_past, length_push}
+use Rattle.keyed_sets.specs.Map.{RowsRise}
 use Rattle.keyed_sets.specs.Layout.{Row, is_below}
 use Rattle.keyed_sets.specs.Rule.{page_rows}
 use Rattle.keyed_sets.specs.Standing.{Apart, AllBelow, StartsWith}
 use Rattle.keyed_sets.specs.Taken.{EndsWith}
 use Rattle.keyed_sets.proofs.Keys.{below_both, below_itself, below_false}
-use Rattle.keyed_sets.proofs.Maps.{Rows}
 use Rattle.keyed_sets.proofs.Members.{nothing_there, at_front, further, front_or}
 
 pub page_past : (table : List (List Row)) (n : ℕ) → length table ≤ n → page_rows table n ≡ []
@@ -54,14 +54,14 @@ last_row key [] ends = absurd ends
 last_row key (row ∷ []) ends = (row, at_front row [], ends)
 last_row key (row ∷ next ∷ rows) ends = let more = last_row key (next ∷ rows) ends in (more.0, further row (next ∷ rows) more.0 more.1, more.2)
 
-pub from_first : (key : List ℕ) (rows : List Row) → Rows rows → StartsWith key rows → (row : Row) → Contains rows row → is_below (row.0) key ≡ false
+pub from_first : (key : List ℕ) (rows : List Row) → RowsRise rows → StartsWith key rows → (row : Row) → Contains rows row → is_below (row.0) key ≡ false
 from_first key [] rise starts row c = absurd starts
 from_first key (first ∷ rows) rise starts row c = below_false (row.0) key (λ below. elim (front_or first rows row c) [
   | inl is ↦ below_itself (row.0) key below (ap (λ (r : Row). r.0) is ∙ starts)
   | inr d ↦ below_both (row.0) key below (ap (λ (k : List ℕ). is_below k (row.0)) (sym starts) ∙ rise.0 row d)
 ])
 
-pub upto_last : (key : List ℕ) (rows : List Row) → Rows rows → EndsWith key rows → (row : Row) → Contains rows row → is_below key (row.0) ≡ false
+pub upto_last : (key : List ℕ) (rows : List Row) → RowsRise rows → EndsWith key rows → (row : Row) → Contains rows row → is_below key (row.0) ≡ false
 upto_last key [] rise ends row c = absurd ends
 upto_last key (last ∷ []) rise ends row c = below_false key (row.0) (λ below. elim (front_or last [] row c) [
   | inl is ↦ below_itself key (row.0) below (sym ends ∙ ap (λ (r : Row). r.0) (sym is))

@@ -2,10 +2,9 @@
 use Rattle.std.specs.Prelude.{◌≡◌, ◌⊎◌, ℕ, ◌+◌, ◌<◌, List, length, Contains, IsTrue, Option, IfSome, IsSomeAnd}
 use Rattle.keyed_sets.specs.declared.row.RowShape.{RowShape}
 use Rattle.keyed_sets.specs.declared.index.First.{First}
-use Rattle.keyed_sets.specs.Changes.{placed}
 use Rattle.keyed_sets.specs.Layout.{Row, is_below}
 use Rattle.keyed_sets.specs.Map.{rows_of, with_row}
-use Rattle.keyed_sets.specs.Places.{IsHome, IsAboveAll, HasNoRows, Takes, second_page, kept_rows, moved_rows}
+use Rattle.keyed_sets.specs.Places.{IsHome, IsAboveAll, HasNoRows, Takes, halved}
 use Rattle.keyed_sets.specs.Rule.{tables, page_rows}
 
 -- the page at this place is the key's; only at the last place can the key be above all others
@@ -16,7 +15,7 @@ pub record GoesTo (key : List ℕ) (table : List (List Row)) (firsts : List Firs
 
 -- the page of this number was split
 pub record IsSplitAt (shape : RowShape) (row : Row) (n : ℕ) (old new : Option (List (List ℕ))) : Type 0 where
-  pub pages : IfSome old (λ before. IsSomeAnd new (λ after. tables shape after ≡ placed (second_page (tables shape before)) (moved_rows row (page_rows (tables shape before) n)) (placed n (kept_rows row (page_rows (tables shape before) n)) (tables shape before))))
+  pub pages : IfSome old (λ before. IsSomeAnd new (λ after. tables shape after ≡ halved n row (tables shape before)))
   pub rows : IfSome old (λ before. IsSomeAnd new (λ after. rows_of shape after ≡ with_row row (rows_of shape before)))
 
 -- a second page is begun by the row of this key alone

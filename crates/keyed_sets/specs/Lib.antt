@@ -4,6 +4,7 @@ pub mod Changes
 pub mod Index
 pub mod Layout
 pub mod Map
+pub mod OneProof
 pub mod Places
 pub mod Rule
 -- words of the private functions

@@ -11,6 +11,9 @@ abbrev pub KeysRise : {X : Type 0} → (X → List ℕ) → List X → Type 0
 KeysRise key [] = ⊤
 KeysRise {X} key (x ∷ xs) = ((y : X) → Contains xs y → IsTrue (is_below (key x) (key y))) × KeysRise key xs
 
+abbrev pub RowsRise : List Row → Type 0
+RowsRise rows = KeysRise (λ (row : Row). row.0) rows
+
 -- the body of the row of this key
 abbrev pub lookup : List ℕ → List Row → Option (List ℕ)
 lookup key [] = None

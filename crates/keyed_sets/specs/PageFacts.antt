@@ -17,5 +17,6 @@ middle rows = length rows - length rows / 2
 -- what a split makes of the two pages, where the new row's place in the full one is `at`
 pub record Split (shape : RowShape) (page page2 second second2 : List ℕ) (row : Row) (at : ℕ) : Type 0 where
   pub many : 1 < count_of page
-  pub up : middle (rows_in shape page) < at → PutsRows shape page page2 (lower_half (rows_in shape page)) × PutsRows shape second second2 (insert (upper_half (rows_in shape page)) (at - middle (rows_in shape page)) row)
+  pub up : middle (rows_in shape page) < at
+      → PutsRows shape page page2 (lower_half (rows_in shape page)) × PutsRows shape second second2 (insert (upper_half (rows_in shape page)) (at - middle (rows_in shape page)) row)
   pub down : at ≤ middle (rows_in shape page) → PutsRows shape page page2 (insert (lower_half (rows_in shape page)) at row) × PutsRows shape second second2 (upper_half (rows_in shape page))

@@ -54,12 +54,16 @@ kept_rows row rows = if begins_upto (row.0) (upper_half rows) then lower_half ro
 abbrev pub moved_rows : Row → List Row → List Row
 moved_rows row rows = if begins_upto (row.0) (upper_half rows) then with_row row (upper_half rows) else upper_half rows
 
+-- the page of this number is halved, with the row in its half, and the upper half stands in a second page
+abbrev pub halved : ℕ → Row → List (List Row) → List (List Row)
+halved n row table = placed (second_page table) (moved_rows row (page_rows table n)) (placed n (kept_rows row (page_rows table n)) table)
+
 -- what the pages are after a row was put among them
 pub data IsPut (most : ℕ) (row : Row) (before after : List (List Row)) : Type 0 where
   Fits : (n : ℕ) → IsHome (row.0) before n → Takes most (row.0) (page_rows before n) → after ≡ placed n (with_row row (page_rows before n)) before → IsPut most row before after
-  Begins : (n : ℕ) → IsHome (row.0) before n → (Takes most (row.0) (page_rows before n) → ⊥) → IsAboveAll (row.0) before → after ≡ placed (second_page before) (row ∷ []) before → IsPut most row before after
-  Splits : (n : ℕ) → IsHome (row.0) before n → (Takes most (row.0) (page_rows before n) → ⊥) → (IsAboveAll (row.0) before → ⊥)
-      → after ≡ placed (second_page before) (moved_rows row (page_rows before n)) (placed n (kept_rows row (page_rows before n)) before) → IsPut most row before after
+  Begins : (n : ℕ) → IsHome (row.0) before n → (Takes most (row.0) (page_rows before n) → ⊥) → IsAboveAll (row.0) before
+      → after ≡ placed (second_page before) (row ∷ []) before → IsPut most row before after
+  Splits : (n : ℕ) → IsHome (row.0) before n → (Takes most (row.0) (page_rows before n) → ⊥) → (IsAboveAll (row.0) before → ⊥) → after ≡ halved n row before → IsPut most row before after
 
 -- a second page is needed, and no page is empty
 pub data NeedsPage (most : ℕ) (key : List ℕ) (table : List (List Row)) : Type 0 where

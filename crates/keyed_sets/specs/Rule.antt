@@ -60,3 +60,7 @@ pub record BreaksAt (shape : RowShape) (pages : List (List ℕ)) (page offset : 
   pub before : KeepsRule shape (take page pages)
   pub breaks : KeepsRule shape (take (page + 1) pages) → ⊥
   pub place : offset ≡ break_place shape (slice_index_or pages page [])
+
+-- the same of a set whose rows have these lengths
+abbrev pub Breaks : ℕ → ℕ → ℕ → ℕ → List (List ℕ) → Type 0
+Breaks key body page offset pages = BreaksAt (record { key = key; body = body }) pages page offset

@@ -18,10 +18,18 @@ first_at home firsts = slice_index_or firsts home no_first
 abbrev pub number_at : List ℕ → ℕ
 number_at numbers = slice_index_or numbers 0 0
 
+-- what is kept of the page at a place, and of the first of the empty pages, where their rows begin with this key
+abbrev pub begun_at : Index → ℕ → List ℕ → First
+begun_at old home key = record { key = key; page = (first_at home old.firsts.items).page }
+
+abbrev pub begun_empty : Index → List ℕ → First
+begun_empty old key = record { key = key; page = number_at old.empty.items }
+
 -- the page at a place was put back with other rows
 pub record WritesPage (set : SetId) (shape : RowShape) (old new : Index) (home : ℕ) (page : List ℕ) (before after : ShelfView) : Type 0 where
   pub pages : after.pages set ≡ option_map (λ pages. slice_set pages (first_at home old.firsts.items).page page) (before.pages set)
-  pub some : 0 < count_of page → (key : List ℕ) × StartsWith key (rows_in shape page) × (new.firsts.items ≡ slice_set old.firsts.items home (record { key = key; page = (first_at home old.firsts.items).page })) × (new.empty.items ≡ old.empty.items)
+  pub some : 0 < count_of page
+      → (key : List ℕ) × StartsWith key (rows_in shape page) × (new.firsts.items ≡ slice_set old.firsts.items home (begun_at old home key)) × (new.empty.items ≡ old.empty.items)
   pub none : count_of page ≡ 0 → (new.firsts.items ≡ remove old.firsts.items home) × (new.empty.items ≡ with_number (first_at home old.firsts.items).page old.empty.items)
 
 -- the first of the empty pages has rows now, which come last
@@ -29,7 +37,7 @@ pub record AddsPage (set : SetId) (shape : RowShape) (old new : Index) (page : L
   pub pages : after.pages set ≡ option_map (λ pages. slice_set pages (number_at old.empty.items) page) (before.pages set)
   pub key : List ℕ
   pub starts : StartsWith key (rows_in shape page)
-  pub firsts : new.firsts.items ≡ old.firsts.items ++ record { key = key; page = number_at old.empty.items } ∷ []
+  pub firsts : new.firsts.items ≡ old.firsts.items ++ begun_empty old key ∷ []
   pub empty : new.empty.items ≡ remove old.empty.items 0
 
 -- a page and the first of the empty pages may be put back with these rows
@@ -58,17 +66,18 @@ pub record WritesHalves (set : SetId) (shape : RowShape) (old new : Index) (home
   pub low_starts : StartsWith low (rows_in shape page)
   pub high : List ℕ
   pub high_starts : StartsWith high (rows_in shape second)
-  pub firsts : new.firsts.items ≡ slice_set (insert old.firsts.items (home + 1) (record { key = high; page = number_at old.empty.items })) home (record { key = low; page = (first_at home old.firsts.items).page })
+  pub firsts : new.firsts.items ≡ slice_set (insert old.firsts.items (home + 1) (begun_empty old high)) home (begun_at old home low)
   pub empty : new.empty.items ≡ remove old.empty.items 0
 
 -- nothing was put back, or the page at a place alone
 pub data LeavesHalf (set : SetId) (shape : RowShape) (old new : Index) (home : ℕ) (page : List ℕ) (before after : ShelfView) : Type 0 where
   Nothing : new.firsts.items ≡ old.firsts.items → new.empty.items ≡ old.empty.items → SameShelf before after → LeavesHalf set shape old new home page before after
-  Half : (low : List ℕ) → StartsWith low (rows_in shape page) → new.firsts.items ≡ slice_set old.firsts.items home (record { key = low; page = (first_at home old.firsts.items).page }) → new.empty.items ≡ old.empty.items
+  Half : (low : List ℕ) → StartsWith low (rows_in shape page) → new.firsts.items ≡ slice_set old.firsts.items home (begun_at old home low) → new.empty.items ≡ old.empty.items
       → after.pages set ≡ option_map (λ pages. slice_set pages (first_at home old.firsts.items).page page) (before.pages set) → LeavesHalf set shape old new home page before after
 
 -- a page is empty, or one was added
 pub data MakesPage (set : SetId) (old new : Index) (before after : ShelfView) : Type 0 where
   Had : 0 < length old.empty.items → new.empty.items ≡ old.empty.items → SameShelf before after → MakesPage set old new before after
   Made : old.empty.items ≡ [] → new.empty.items ≡ length (before.places set) ∷ []
-      → after.pages set ≡ option_map (λ pages. pages ++ empty_page 2 set (length (before.places set)) ∷ []) (before.pages set) → GrownBy 1 set before after → MakesPage set old new before after
+      → after.pages set ≡ option_map (λ pages. pages ++ empty_page 2 set (length (before.places set)) ∷ []) (before.pages set)
+      → GrownBy 1 set before after → MakesPage set old new before after

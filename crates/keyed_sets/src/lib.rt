@@ -8,13 +8,15 @@
 //! The calls on one page take the page as it stands, and move no row that needn't move. A `KeyedSet` is the set over the
 //! pages of a shelf: no two pages' ranges of keys overlap, so a key belongs to one page, which is found by the first
 //! keys that are kept in memory. `seek.rt` finds a key; `put.rt` has the three ways of a put, `page_edits.rt` what they do to one
-//! page, `write.rt` what the index keeps of a page that is put back.
+//! page, `write.rt` what the index keeps of a page that is put back. `laws.rt` has what the words of the contracts
+//! have as maps.
 #![tactic(auto)]
 
 mod check;
 mod fetch;
 mod get;
 mod index;
+mod laws;
 mod neighbours;
 mod open;
 mod opening;
@@ -28,6 +30,7 @@ mod seek;
 mod set;
 mod write;
 
+pub use laws::{each_change_is_of_one_key, others_leave_a_set_open, rows_rise};
 pub use row::RowShape;
 pub use set::KeyedSet;
 

@@ -1,9 +1,9 @@
 // Opening a set: each page is read and taken in.
-ghost use Rattle.std.specs.Prelude.{◌≡◌, ◌+◌, ◌<◌, ◌≤◌, ℕ, length, take, IfOk, IfSome, OnOk, IsErrOf, IsTrue, All};
+ghost use Rattle.std.specs.Prelude.{◌≡◌, ◌+◌, ◌<◌, ◌≤◌, ℕ, length, take, IfOk, IfSome, OnOk, IsErrOf, IsTrue};
 ghost use Rattle.hal_base.specs.ShelfCalls.{OnlyReads};
-ghost use Rattle.keyed_sets.specs.Rule.{BreaksAt};
+ghost use Rattle.keyed_sets.specs.Rule.{Breaks};
 ghost use Rattle.keyed_sets.specs.Calls.{IsOpened};
-ghost use Rattle.keyed_sets.specs.Taken.{TakesIn};
+ghost use Rattle.keyed_sets.specs.Taken.{TakesPage, BreaksPage, FirstsWithin, EmptyWithin};
 
 use crate::check::page_break;
 use crate::index::Index;
@@ -25,10 +25,10 @@ impl Opening {
         requires live { IsTrue (H.seen shelf.old).live }
         requires below { n < length ((H.seen shelf.old).places set) }
         requires some { 0 < shape.key }
-        ensures taken { OnOk result (IfSome ((H.seen shelf.old).pages set) (λ pages. TakesIn shape (take n pages) self.old.firsts.items self.old.lasts.items self.old.empty.items → TakesIn shape (take (n + 1) pages) self.new.firsts.items self.new.lasts.items self.new.empty.items)) }
-        ensures broken { (page offset : ℕ) → result ≡ Err (StoreFault.BadTile page offset) → IfSome ((H.seen shelf.old).pages set) (λ pages. TakesIn shape (take n pages) self.old.firsts.items self.old.lasts.items self.old.empty.items → BreaksAt shape pages page offset) }
-        ensures within { OnOk result ((count : ℕ) → n < count → All (λ first. first.page < count) self.old.firsts.items → All (λ first. first.page < count) self.new.firsts.items) }
-        ensures empty_within { OnOk result ((count : ℕ) → n < count → All (λ k. k < count) self.old.empty.items → All (λ k. k < count) self.new.empty.items) }
+        ensures taken { OnOk result (IfSome ((H.seen shelf.old).pages set) (TakesPage shape n self.old self.new)) }
+        ensures broken { (page offset : ℕ) → result ≡ Err (StoreFault.BadTile page offset) → IfSome ((H.seen shelf.old).pages set) (BreaksPage shape n self.old page offset) }
+        ensures within { OnOk result (FirstsWithin n self.old self.new) }
+        ensures empty_within { OnOk result (EmptyWithin n self.old self.new) }
         ensures leaves { OnlyReads 1 (H.steady shelf.old shelf.new) (IsErrOf result StoreFault.Failed) (H.seen shelf.old) (H.seen shelf.new) }
     {
         let mut page = [0; BLOCK];
@@ -56,7 +56,7 @@ impl KeyedSet {
         requires short { key + body ≤ 2040 }
         ensures set { IfOk result (λ opened. (opened.set ≡ set) × (opened.shape ≡ record { key = key; body = body })) }
         ensures opened { IfOk result (λ opened. IsOpened opened (H.seen shelf.new)) }
-        ensures broken { (page offset : ℕ) → result ≡ Err (StoreFault.BadTile page offset) → IfSome ((H.seen shelf.old).pages set) (λ pages. BreaksAt (record { key = key; body = body }) pages page offset) }
+        ensures broken { (page offset : ℕ) → result ≡ Err (StoreFault.BadTile page offset) → IfSome ((H.seen shelf.old).pages set) (Breaks key body page offset) }
         ensures leaves { OnlyReads (length ((H.seen shelf.old).places set)) (H.steady shelf.old shelf.new) (IsErrOf result StoreFault.Failed) (H.seen shelf.old) (H.seen shelf.new) }
     {
         let shape = RowShape { key, body };

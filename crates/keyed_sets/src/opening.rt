@@ -5,7 +5,7 @@ ghost use Rattle.keyed_sets.specs.Layout.{Row, rows_in, is_below};
 ghost use Rattle.keyed_sets.specs.Map.{KeysRise};
 ghost use Rattle.keyed_sets.specs.Rule.{IsRowPage, page_rows};
 ghost use Rattle.keyed_sets.specs.Standing.{Apart, StartsWith};
-ghost use Rattle.keyed_sets.specs.Taken.{EndsWith, AreTaken};
+ghost use Rattle.keyed_sets.specs.Taken.{TakesRange, CrossesRange, TakesRows, CrossesRows, FirstsWithin, EmptyWithin};
 
 use crate::RowShape;
 use crate::index::{First, starts_upto};
@@ -68,9 +68,9 @@ impl Opening {
         first: &[u8],
         last: &[u8],
     ) -> Result<(), StoreFault>
-        ensures taken { OnOk result ((table : List (List Row)) (rows : List Row) → AreTaken table self.old.firsts.items self.old.lasts.items self.old.empty.items → n ≡ length table → KeysRise (λ row. row.0) rows → StartsWith first.now rows → EndsWith last.now rows → AreTaken (table ++ rows ∷ []) self.new.firsts.items self.new.lasts.items self.new.empty.items) }
-        ensures overlap { (page offset : ℕ) → result ≡ Err (StoreFault.BadTile page offset) → (page ≡ n) × (offset ≡ 16) × ((table : List (List Row)) (rows : List Row) → AreTaken table self.old.firsts.items self.old.lasts.items self.old.empty.items → n ≡ length table → KeysRise (λ row. row.0) rows → StartsWith first.now rows → EndsWith last.now rows → (m : ℕ) × (m < n) × (Apart (page_rows table m) rows → ⊥)) }
-        ensures within { OnOk result ((count : ℕ) → n < count → All (λ first. first.page < count) self.old.firsts.items → All (λ first. first.page < count) self.new.firsts.items) }
+        ensures taken { OnOk result (TakesRange n first.now last.now self.old self.new) }
+        ensures overlap { (page offset : ℕ) → result ≡ Err (StoreFault.BadTile page offset) → (page ≡ n) × (offset ≡ 16) × CrossesRange n first.now last.now self.old }
+        ensures within { OnOk result (FirstsWithin n self.old self.new) }
         ensures empty { self.new.empty.items ≡ self.old.empty.items }
         ensures failed { IsErrOf result StoreFault.Failed → ⊥ }
     {
@@ -102,10 +102,10 @@ impl Opening {
         page: &[u8; BLOCK],
     ) -> Result<(), StoreFault>
         requires { IsRowPage shape page.now }
-        ensures taken { OnOk result ((table : List (List Row)) → AreTaken table self.old.firsts.items self.old.lasts.items self.old.empty.items → n ≡ length table → AreTaken (table ++ rows_in shape page.now ∷ []) self.new.firsts.items self.new.lasts.items self.new.empty.items) }
-        ensures overlap { (bad offset : ℕ) → result ≡ Err (StoreFault.BadTile bad offset) → (bad ≡ n) × (offset ≡ 16) × ((table : List (List Row)) → AreTaken table self.old.firsts.items self.old.lasts.items self.old.empty.items → n ≡ length table → (m : ℕ) × (m < n) × (Apart (page_rows table m) (rows_in shape page.now) → ⊥)) }
-        ensures within { OnOk result ((count : ℕ) → n < count → All (λ first. first.page < count) self.old.firsts.items → All (λ first. first.page < count) self.new.firsts.items) }
-        ensures empty_within { OnOk result ((count : ℕ) → n < count → All (λ k. k < count) self.old.empty.items → All (λ k. k < count) self.new.empty.items) }
+        ensures taken { OnOk result (TakesRows n (rows_in shape page.now) self.old self.new) }
+        ensures overlap { (bad offset : ℕ) → result ≡ Err (StoreFault.BadTile bad offset) → (bad ≡ n) × (offset ≡ 16) × CrossesRows n (rows_in shape page.now) self.old }
+        ensures within { OnOk result (FirstsWithin n self.old self.new) }
+        ensures empty_within { OnOk result (EmptyWithin n self.old self.new) }
         ensures failed { IsErrOf result StoreFault.Failed → ⊥ }
     {
         let count = count_in(page);
