@@ -2,4 +2,4 @@ pub mod Fits
 pub mod Grouping
 pub mod Marks
 pub mod RootOrder
-pub mod Units
+pub mod UnitLemmas

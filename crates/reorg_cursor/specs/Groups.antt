@@ -1,7 +1,7 @@
 -- The groups in which an online reorganization copies the records of a partition, and its cursor. A group is one record
 -- (PHIDAM), or the records of one root anchor that has any (PHDAM). IMS: unit of reorganization; cursor of an integrated
 -- HALDB online reorganization.
-use Rattle.std.specs.Prelude.{ℕ, ◌+◌, ◌*◌, ◌==◌, nat_lt, Bool, false, not, ◌&&◌, if◌then◌else◌, List, [], ◌∷◌, length, take, None, filter, fold, flat_map, count_by}
+use Rattle.std.specs.Prelude.{ℕ, ◌+◌, ◌*◌, ◌==◌, nat_lt, Bool, false, not, ◌&&◌, if◌then◌else◌, List, [], ◌∷◌, length, take, Option, None, Some, filter, fold, flat_map, count_by}
 use Rattle.std.specs.List.{list_any, slice_get}
 use Rattle.std.specs.Option.{option_map_or}
 use Rattle.std.specs.Ordering.{is_le}
@@ -38,6 +38,14 @@ cursor_at schema key = if schema.phdam then Anchors (anchor_place schema key + 1
 -- the cursor once these records are copied; where there are none it stays
 abbrev pub cursor_after : Schema → Cursor → List Row → Cursor
 cursor_after schema cursor roots = fold (λ before root. cursor_at schema (row_key schema.types root)) cursor roots
+
+-- the same of the key of their last root, if there is one
+abbrev pub last_key : Schema → List Row → Option (List ℕ)
+last_key schema roots = fold (λ before root. Some (row_key schema.types root)) None roots
+
+abbrev pub cursor_behind : Schema → Cursor → Option (List ℕ) → Cursor
+cursor_behind schema cursor None = cursor
+cursor_behind schema cursor (Some key) = cursor_at schema key
 
 -- one record or more, of which the first is named
 pub record Group (X : Type 0) : Type 0 where

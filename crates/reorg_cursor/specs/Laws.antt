@@ -1,12 +1,13 @@
 -- Laws of the states of a partition, and of units on the list.
 use Rattle.std.specs.Prelude.{◌≡◌, ℕ, ◌<◌, ◌≤◌, true, false, IsTrue, List, [], length, drop, fold, sum, filter, flat_map, None}
+use Rattle.hal_base.specs.declared.place.Cursor.{Cursor}
 use Rattle.hal_base.specs.declared.place.PartState.{PartState}
 use Rattle.hal_schema.specs.declared.row.Row.{Row}
 use Rattle.hal_schema.specs.declared.schema.Schema.{Schema}
 use Rattle.hal_schema.specs.Forest.{is_forest}
 use Rattle.volume_image.specs.Control.{state_fits}
 use Rattle.reorg_cursor.specs.State.{start_refusal, unit_refusal, resume_refusal, started, paused, resumed, ended}
-use Rattle.reorg_cursor.specs.Groups.{roots_at, is_left, is_done, members, groups_left, stepped, are_all_done, finished}
+use Rattle.reorg_cursor.specs.Groups.{roots_at, is_left, is_done, members, groups_left, stepped, are_all_done, finished, cursor_after, cursor_behind, last_key}
 
 -- a list in hierarchic sequence, and a state that the partition at this place may have
 pub record Stands (schema : Schema) (place : ℕ) (rows : List Row) (s : PartState) : Type 0 where
@@ -57,3 +58,7 @@ pub record FinishFalls (schema : Schema) (place : ℕ) (rows : List Row) (s : Pa
 
 abbrev pub FinishEnds : Type 0
 FinishEnds = (schema : Schema) (place : ℕ) (rows : List Row) (s : PartState) → Stands schema place rows s → FinishFalls schema place rows s
+
+-- The cursor behind records is that behind the last of them.
+abbrev pub CursorsAreOfTheLast : Type 0
+CursorsAreOfTheLast = (schema : Schema) (cursor : Cursor) (roots : List Row) → cursor_after schema cursor roots ≡ cursor_behind schema cursor (last_key schema roots)

@@ -1,5 +1,5 @@
 // What units and events keep, as those use it who stand on them.
-ghost use Rattle.reorg_cursor.specs.Laws.{CursorsRise, FinishEnds, StatesFit, UnitsReachOneEnd, UnitsTakeFirst};
+ghost use Rattle.reorg_cursor.specs.Laws.{CursorsAreOfTheLast, CursorsRise, FinishEnds, StatesFit, UnitsReachOneEnd, UnitsTakeFirst};
 
 use hal_schema::schemas_are_kept;
 
@@ -19,6 +19,11 @@ pub fn units_reach_one_end()
 /// The cursor only rises.
 pub fn cursors_rise()
     ensures { CursorsRise }
+{}
+
+/// The cursor behind the records of a unit is that behind the last of them.
+pub fn cursors_are_of_the_last()
+    ensures { CursorsAreOfTheLast }
 {}
 
 /// A state that is reached is one that a control row may have.

@@ -1,5 +1,7 @@
-use crate::{Refusal, end, pause, resume, start};
-use hal_base::{Cursor, PartState};
+use crate::{Refusal, end, groups_asked, is_done, move_cursor, pause, resume, start};
+use call_text::Command;
+use hal_base::{Cursor, Key, PartState};
+use hal_schema::first_schema;
 use std::test::Fail;
 
 fn state(number: u16, side: u8, state: u8) -> PartState {
@@ -50,5 +52,23 @@ fn a_refusal_says_why(rt: HostRuntime) -> Result<(), Fail> {
     assert_eq!(rt; Refusal::Begun.code(), 2);
     assert_eq!(rt; Refusal::NotBegun.code(), 3);
     assert_eq!(rt; Refusal::Paused.code(), 4);
+    Ok(())
+}
+
+#[test]
+fn a_unit_moves_the_cursor_behind_its_last_record(rt: HostRuntime) -> Result<(), Fail> {
+    let schema = first_schema(rt.alloc())?;
+    let mut of = state(1, b'A', b'C');
+    move_cursor(&mut of, &schema, None);
+    assert!(rt; matches!(&of.cursor, Cursor::Front));
+    assert!(rt; !is_done(&schema, &of.cursor, b"100"));
+    let last = Key::from_slice(rt.alloc(), b"200")?;
+    move_cursor(&mut of, &schema, Some(last));
+    for (key, done) in [("100", true), ("200", true), ("201", false)] {
+        assert_eq!(rt; is_done(&schema, &of.cursor, key.as_bytes()), done, "{key}");
+    }
+    assert!(rt; is_done(&schema, &Cursor::Anchors(1), b"201"));
+    assert_eq!(rt; groups_asked(Command::Finish), 16);
+    assert_eq!(rt; groups_asked(Command::Step(1000)), 1000);
     Ok(())
 }

@@ -1,5 +1,5 @@
 use Rattle.reorg_cursor.proofs.Fits.{fits_kind}
-use Rattle.reorg_cursor.proofs.Units.{unit_keeps}
+use Rattle.reorg_cursor.proofs.UnitLemmas.{unit_keeps}
 use Rattle.reorg_cursor.proofs.laws.cursors_rise.Goals as goal
 
 pub returns : goal.returns

@@ -12,7 +12,7 @@ use Rattle.reorg_cursor.proofs.Fits.{FitsAt, fits_parts, fits_from, unit_active,
 use Rattle.reorg_cursor.proofs.Grouping.{marked_has, each_of, all_filter, filter_passes}
 use Rattle.reorg_cursor.proofs.Marks.{mark_of}
 use Rattle.reorg_cursor.proofs.RootOrder.{root_is, forest_parts}
-use Rattle.reorg_cursor.proofs.Units.{unit_among}
+use Rattle.reorg_cursor.proofs.UnitLemmas.{unit_among}
 use Rattle.reorg_cursor.proofs.laws.states_fit.Goals as goal
 
 -- an active state may have any cursor

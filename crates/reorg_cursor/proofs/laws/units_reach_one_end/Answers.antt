@@ -9,7 +9,7 @@ use Rattle.reorg_cursor.specs.Groups.{groups_left, stepped}
 use Rattle.reorg_cursor.specs.Laws.{Stands, StatesFit, stepped_by}
 use Rattle.reorg_cursor.proofs.Fits.{fits_kind}
 use Rattle.reorg_cursor.proofs.RootOrder.{roots_in_order}
-use Rattle.reorg_cursor.proofs.Units.{units_join, none_after}
+use Rattle.reorg_cursor.proofs.UnitLemmas.{units_join, none_after}
 use Rattle.reorg_cursor.proofs.laws.units_reach_one_end.Goals as goal
 
 sum_more : (k : ℕ) (sizes : List ℕ) → sum (k ∷ sizes) ≡ k + sum sizes

@@ -1,6 +1,6 @@
 use Rattle.reorg_cursor.proofs.Fits.{fits_kind}
 use Rattle.reorg_cursor.proofs.RootOrder.{roots_in_order}
-use Rattle.reorg_cursor.proofs.Units.{unit_leaves, groups_after}
+use Rattle.reorg_cursor.proofs.UnitLemmas.{unit_leaves, groups_after}
 use Rattle.reorg_cursor.proofs.laws.units_take_first.Goals as goal
 
 pub returns : goal.returns

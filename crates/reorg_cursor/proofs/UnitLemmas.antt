@@ -1,5 +1,5 @@
 -- Units on the list: what a unit leaves, and that units of any sizes come to one end.
-use Rattle.std.proofs.Common.{◌≡◌, ℕ, ◌+◌, ◌≤◌, Bool, true, List, [], ◌++◌, take, drop, length, sym, ap, ◌∙◌}
+use Rattle.std.proofs.Common.{Option, None, Some, ◌≡◌, ℕ, ◌+◌, ◌≤◌, Bool, true, List, [], ◌++◌, take, drop, length, sym, ap, ◌∙◌, ◌∷◌, fold, refl}
 use Rattle.std.specs.Prelude.{filter}
 use Rattle.std.specs.List.{list_all}
 use Rattle.std.proofs.lemmas.Bool.{not-true, not-false, not_from_true}
@@ -13,7 +13,7 @@ use Rattle.hal_base.specs.declared.place.PartState.{PartState}
 use Rattle.hal_schema.specs.declared.row.Row.{Row}
 use Rattle.hal_schema.specs.declared.schema.Schema.{Schema}
 use Rattle.hal_schema.specs.Forest.{all_pairs}
-use Rattle.reorg_cursor.specs.Groups.{is_done, members, grouped, same_group, is_left, roots_at, groups_left, unit_roots, cursor_after, stepped}
+use Rattle.reorg_cursor.specs.Groups.{is_done, members, grouped, same_group, is_left, roots_at, groups_left, unit_roots, cursor_after, stepped, last_key, cursor_behind}
 use Rattle.reorg_cursor.proofs.Grouping.{all_parts, all_weaker, filter_all, filter_none, filter_twice, filter_passes, all_filter, pairs_filter, pairs_front, joined_groups, groups_behind, roots_of, marked_has, marked_done, marked_left}
 use Rattle.reorg_cursor.proofs.Marks.{of_kind, done_stays, is_before, has_done, mark_of, key_of, cursor_marks}
 
@@ -92,3 +92,12 @@ units_join schema place rows s j k kind order =
 pub none_after : (schema : Schema) (place : ℕ) (rows : List Row) (cursor : Cursor) (k : ℕ) → of_kind schema cursor ≡ true → all_pairs (is_before schema) (roots_at schema place rows) ≡ true
     → length (groups_left schema place rows cursor) ≤ k → groups_left schema place rows (cursor_after schema cursor (unit_roots schema place rows cursor k)) ≡ []
 none_after schema place rows cursor k kind order enough = groups_after schema place rows cursor k kind order ∙ drop_all k (groups_left schema place rows cursor) enough
+
+behind_along : (schema : Schema) (first cursor : Cursor) (last : Option (List ℕ)) → cursor ≡ cursor_behind schema first last → (roots : List Row)
+    → cursor_after schema cursor roots ≡ cursor_behind schema first (fold (λ before root. Some (key_of schema root)) last roots)
+behind_along schema first cursor last e [] = e
+behind_along schema first cursor last e (root ∷ roots) = behind_along schema first (mark_of schema root) (Some (key_of schema root)) refl roots
+
+-- the cursor behind records is that behind their last one
+pub behind_last : (schema : Schema) (cursor : Cursor) (roots : List Row) → cursor_after schema cursor roots ≡ cursor_behind schema cursor (last_key schema roots)
+behind_last schema cursor roots = behind_along schema cursor cursor None refl roots
