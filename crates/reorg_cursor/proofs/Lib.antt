@@ -1,0 +1,5 @@
+pub mod Fits
+pub mod Grouping
+pub mod Marks
+pub mod RootOrder
+pub mod UnitLemmas

@@ -1,0 +1,6 @@
+pub mod Events
+pub mod Examples
+pub mod Groups
+pub mod Laws
+pub mod Lines
+pub mod State
