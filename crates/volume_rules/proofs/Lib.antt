@@ -1,0 +1,11 @@
+pub mod ExamplesBroken
+pub mod ExamplesKept
+pub mod Homes
+pub mod Leading
+pub mod Listed
+pub mod Names
+pub mod Pointing
+pub mod Reading
+pub mod Roots
+pub mod Tested
+pub mod Together

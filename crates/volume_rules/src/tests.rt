@@ -1,0 +1,17 @@
+use crate::*;
+
+// The laws are no more than their contracts; this calls each of them once.
+#[test]
+fn the_laws_can_be_called(_rt: HostRuntime) {
+    deltas_keep_homes();
+    deltas_keep_rule_6();
+    deltas_keep_rule_8();
+    deltas_keep_rule_9();
+    deltas_keep_rule_10();
+    deltas_keep_rules();
+    examples_are_kept();
+    examples_are_broken();
+    pointers_lead_home();
+    roots_stand();
+    tests_tell();
+}
