@@ -23,7 +23,7 @@ pub record Indirect (is_target : ℕ → Bool) (view : View) (p : Pointer) (home
   pub target : is_target p.code ≡ true
   pub moved : p.eps.name.number ≢ home.number
 
-number_of : (view : View) (p : Pointer) (home : Home) → target_of view p ≡ Some home → home.number ≡ generation_in view p.root
+pub number_of : (view : View) (p : Pointer) (home : Home) → target_of view p ≡ Some home → home.number ≡ generation_in view p.root
 number_of view p home e = by (p.eps.number == generation_in view p.root) (view.listed p.eps.name p.code) e
   where
     by : (b : Bool) (o : Option Home)

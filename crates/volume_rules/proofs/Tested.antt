@@ -12,13 +12,7 @@ use Rattle.volume_rules.specs.Target.{Pointer, bears, leads_home}
 use Rattle.volume_rules.specs.Rules.{KeepsHomes, KeepsRule6, KeepsRule9, KeepsRule10}
 use Rattle.volume_rules.specs.Tests.{ListKey, Covers, at_each_home, homes_stand, names_differ, names_stand, is_own_name, is_at, moved_are_listed, listed_are_moved, roots_are_parted}
 use Rattle.volume_rules.specs.Laws.{TestsTell}
-
-home_is : (a b : Home) → same_home a b ≡ true → a ≡ b
-home_is a b h =
-    let p = and_parts (a.number == b.number) (a.addr == b.addr) h in
-    let number : a.number ≡ b.number = eqb-true a.number b.number p.0 in
-    let addr : a.addr ≡ b.addr = eqb-true a.addr b.addr p.1 in
-    λ i. record { number = number i; addr = addr i }
+use Rattle.volume_rules.proofs.Homing.{home_is}
 
 -- what holds of each home holds of one among them
 pub at_this : (view : View) (test : Home → Segment → Bool) (homes : List Home) → at_each_home view test homes ≡ true → (home : Home) (s : Segment) → view.segments home ≡ Some s → list_any (same_home home) homes ≡ true

@@ -1,4 +1,6 @@
 pub mod Delta
+pub mod EventLaws
+pub mod Events
 pub mod Examples
 pub mod Laws
 pub mod Rules

@@ -8,6 +8,7 @@
 #![tactic(auto)]
 
 mod deltas;
+mod events;
 mod examples;
 mod pointers;
 mod telling;
@@ -15,6 +16,10 @@ mod telling;
 pub use deltas::{
     deltas_keep_homes, deltas_keep_rule_6, deltas_keep_rule_8, deltas_keep_rule_9,
     deltas_keep_rule_10, deltas_keep_rules,
+};
+pub use events::{
+    deletions_are_lawful, insertions_are_lawful, reorganizations_turn, replacements_are_lawful,
+    switches_are_lawful, turns_are_lawful, units_are_lawful,
 };
 pub use examples::{examples_are_broken, examples_are_kept};
 pub use pointers::{pointers_lead_home, roots_stand};

@@ -14,4 +14,11 @@ fn the_laws_can_be_called(_rt: HostRuntime) {
     pointers_lead_home();
     roots_stand();
     tests_tell();
+    insertions_are_lawful();
+    replacements_are_lawful();
+    deletions_are_lawful();
+    turns_are_lawful();
+    reorganizations_turn();
+    units_are_lawful();
+    switches_are_lawful();
 }
