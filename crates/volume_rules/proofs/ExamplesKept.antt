@@ -8,10 +8,11 @@ use Rattle.hal_base.specs.declared.place.PartState.{PartState}
 use Rattle.hal_schema.specs.declared.schema.PartDef.{PartDef}
 use Rattle.hal_schema.specs.Forest.{all_pairs}
 use Rattle.hal_schema.specs.Row.{same_name}
+use Rattle.forest_laws.specs.Examples.{example_schema}
 use Rattle.volume_rules.specs.View.{Home, Homed, Segment, same_home}
 use Rattle.volume_rules.specs.Tests.{ListKey, Covers}
 use Rattle.volume_rules.specs.Volume.{RowsStand, stands_in}
-use Rattle.volume_rules.specs.Examples.{homed, Placed, ListRow, segment_at, listed_at, rows_at, view_of, homes_of, keys_of, first_part, second_part, idle, active, second_cells, idle_cells, active_cells, active_list, AreKept}
+use Rattle.volume_rules.specs.Examples.{anchored, shown, without_index, homed, Placed, ListRow, segment_at, listed_at, rows_at, view_of, homes_of, keys_of, first_part, second_part, idle, active, second_cells, idle_cells, active_cells, active_list, AreKept}
 use Rattle.volume_rules.proofs.Tested.{tests_tell}
 
 -- a look-up finds what is listed
@@ -136,4 +137,7 @@ are_kept = record {
       (tests_tell _ _ _ _ (homes_of second_cells) (keys_of []) (covers second_part (idle 2) second_cells []) refl, tt),
     );
   };
+  anchors =
+      (let e = anchored 2 1 in
+      tests_tell example_schema.types without_index (shown e) [] (homes_of e.cells) (keys_of e.listed) (covers e.part e.state e.cells e.listed) refl);
 }

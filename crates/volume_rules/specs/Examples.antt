@@ -1,6 +1,6 @@
 -- Volumes that there are, so that the rules can be kept, and volumes that break one rule and no lower one.
 use Rattle.std.specs.Prelude.{ℕ, ◌==◌, Bool, true, false, ◌&&◌, List, [], ◌∷◌, codes, map, Option, None, Some, if◌then◌else◌}
-use Rattle.hal_base.specs.declared.place.Cursor.TheVariants.{Front, At}
+use Rattle.hal_base.specs.declared.place.Cursor.TheVariants.{Front, At, Anchors}
 use Rattle.hal_base.specs.declared.place.Ilk.{Ilk}
 use Rattle.hal_base.specs.declared.place.PartState.{PartState}
 use Rattle.hal_schema.specs.declared.schema.PartDef.{PartDef}
@@ -8,7 +8,7 @@ use Rattle.hal_schema.specs.Row.{same_name}
 use Rattle.forest_laws.specs.Examples.{example_schema}
 use Rattle.volume_rules.specs.View.{Home, Homed, Segment, View, same_home}
 use Rattle.volume_rules.specs.Target.{Eps, Pointer}
-use Rattle.volume_rules.specs.Rules.{KeepsHomes, KeepsRule6, KeepsRule8, KeepsRule9, KeepsRule10}
+use Rattle.volume_rules.specs.Rules.{KeepsHomes, KeepsRule6, KeepsRule8, KeepsRule9, KeepsRule10, KeepsRules}
 use Rattle.volume_rules.specs.Tests.{ListKey}
 use Rattle.volume_rules.specs.Volume.{IndexRow, Volume, KeepsVolume, is_target_of}
 
@@ -163,25 +163,44 @@ active_volume = record {
       ∷ (index_row (codes "g1001") (eps 1 2 32 c1) (codes "001") ∷ index_row (codes "g2001") (eps 1 1 48 c1) (codes "001") ∷ []) ∷ [];
 }
 
-pub record AreKept : Type 0 where
-  pub idle : KeepsVolume example_schema idle_volume
-  pub active : KeepsVolume example_schema active_volume
-
--- ---- partitions that break a rule and no lower one
+-- ---- single partitions
 
 pub record Example : Type 0 where
+  pub part : PartDef
   pub state : PartState
   pub cells : List Placed
   pub listed : List ListRow
 
-abbrev pub first_view : Example → View
-first_view e = view_of first_part e.state e.cells e.listed
+abbrev pub shown : Example → View
+shown e = view_of e.part e.state e.cells e.listed
 
 abbrev pub later : PartState
 later = record { part = 1; number = 2; side = 77; state = 73; cursor = Front }
 
 abbrev pub example : PartState → List Placed → List ListRow → Example
-example state cells listed = record { state = state; cells = cells; listed = listed }
+example state cells listed = record { part = first_part; state = state; cells = cells; listed = listed }
+
+abbrev pub is_indexed : ℕ → Bool
+is_indexed = is_target_of example_schema
+
+abbrev pub without_index : ℕ → Bool
+without_index code = false
+
+-- a partition with anchors, two of four done: the root of anchor 1 is in the output, that of anchor 2 in the input
+abbrev pub anchored : ℕ → ℕ → Example
+anchored first second = record {
+  part = record first_part { anchors = 4 };
+  state = record { part = 1; number = 1; side = 65; state = 67; cursor = Anchors 2 };
+  cells = placed (home first 16) (cell 1 (name 1 first 16) (codes "001aa")) None ∷ placed (home second 128) (cell 1 (name 1 second 128) (codes "002bb")) None ∷ [];
+  listed = [];
+}
+
+pub record AreKept : Type 0 where
+  pub idle : KeepsVolume example_schema idle_volume
+  pub active : KeepsVolume example_schema active_volume
+  pub anchors : KeepsRules example_schema.types without_index (shown (anchored 2 1)) []
+
+-- ---- partitions that break a rule and no lower one
 
 -- of rule 5: a copied cell of an idle partition
 abbrev pub copied_while_idle : Example
@@ -190,6 +209,14 @@ copied_while_idle = example (idle 1) (placed (home 1 16) (old_cell 1 r1 (codes "
 -- a cell of a generation that the partition has left
 abbrev pub left_behind : Example
 left_behind = example later (placed (home 1 16) (cell 1 r1 (codes "001aa")) None ∷ []) []
+
+-- a cell of the next generation of an idle partition
+abbrev pub not_yet_live : Example
+not_yet_live = example (idle 1) (placed (home 2 16) (cell 1 r1 (codes "001aa")) None ∷ []) []
+
+-- a copied cell in the output
+abbrev pub copied_in_output : Example
+copied_in_output = example (active 1 (codes "001")) (placed (home 2 16) (old_cell 1 r1 (codes "001aa")) None ∷ []) []
 
 abbrev pub one_root : Ilk → Example
 one_root name = example (idle 1) (placed (home 1 16) (cell 1 name (codes "001aa")) None ∷ []) []
@@ -209,6 +236,12 @@ abbrev pub moved_before : List ListRow → Example
 moved_before listed =
     example later (placed (home 2 64) (cell 1 r1 (codes "001aa")) None ∷ []) listed
 
+-- a segment that moved in an earlier reorganization, in the input of a later one whose cursor has passed its root
+abbrev pub passed_over : Example
+passed_over =
+    example (record { part = 1; number = 2; side = 77; state = 67; cursor = At (codes "001") }) (placed (home 2 64) (cell 1 r1 (codes "001aa")) None ∷ [])
+    (list_row r1 1 (home 2 64) ∷ [])
+
 abbrev pub to_r1 : ℕ → ℕ → List Pointer
 to_r1 number addr = record { eps = eps 1 number addr r1; root = codes "001"; code = 1 } ∷ []
 
@@ -221,30 +254,26 @@ copied_too_early =
     example (active 1 (codes "001"))
     (placed (home 2 16) (cell 1 r3 (codes "300cc")) None ∷ placed (home 1 128) (old_cell 1 r3 (codes "300cc")) None ∷ []) []
 
-abbrev pub is_indexed : ℕ → Bool
-is_indexed = is_target_of example_schema
-
-abbrev pub without_index : ℕ → Bool
-without_index code = false
-
 abbrev pub BreaksRule6 : Example → Type 0
-BreaksRule6 e = KeepsHomes (first_view e) × (KeepsRule6 (first_view e) → ⊥)
+BreaksRule6 e = KeepsHomes (shown e) × (KeepsRule6 (shown e) → ⊥)
 
 abbrev pub BreaksRule8 : Example → List Pointer → Type 0
-BreaksRule8 e pointers = KeepsHomes (first_view e) × KeepsRule6 (first_view e) × (KeepsRule8 is_indexed (first_view e) pointers → ⊥)
+BreaksRule8 e pointers = KeepsHomes (shown e) × KeepsRule6 (shown e) × (KeepsRule8 is_indexed (shown e) pointers → ⊥)
 
 abbrev pub BreaksRule9 : Example → List Pointer → Type 0
 BreaksRule9 e pointers =
-    KeepsHomes (first_view e) × KeepsRule6 (first_view e) × KeepsRule8 is_indexed (first_view e) pointers × (KeepsRule9 is_indexed (first_view e) → ⊥)
+    KeepsHomes (shown e) × KeepsRule6 (shown e) × KeepsRule8 is_indexed (shown e) pointers × (KeepsRule9 is_indexed (shown e) → ⊥)
 
 abbrev pub BreaksRule10 : Example → Type 0
 BreaksRule10 e =
-    KeepsHomes (first_view e) × KeepsRule6 (first_view e) × KeepsRule8 without_index (first_view e) [] × KeepsRule9 without_index (first_view e)
-    × (KeepsRule10 example_schema.types (first_view e) → ⊥)
+    KeepsHomes (shown e) × KeepsRule6 (shown e) × KeepsRule8 without_index (shown e) [] × KeepsRule9 without_index (shown e)
+    × (KeepsRule10 example_schema.types (shown e) → ⊥)
 
 pub record AreBroken : Type 0 where
-  pub copied_idle : KeepsHomes (first_view copied_while_idle) → ⊥
-  pub dead : KeepsHomes (first_view left_behind) → ⊥
+  pub copied_idle : KeepsHomes (shown copied_while_idle) → ⊥
+  pub dead : KeepsHomes (shown left_behind) → ⊥
+  pub to_come : KeepsHomes (shown not_yet_live) → ⊥
+  pub in_output : KeepsHomes (shown copied_in_output) → ⊥
   pub two_of_a_name : BreaksRule6 in_both_sides
   pub other_part : BreaksRule6 (one_root (name 2 1 16))
   pub no_number : BreaksRule6 (one_root (name 1 0 16))
@@ -254,9 +283,12 @@ pub record AreBroken : Type 0 where
   pub wrong_address : BreaksRule8 (example (idle 1) idle_cells []) (to_r1 1 48)
   pub from_tomorrow : BreaksRule8 (moved_before (list_row r1 1 (home 2 64) ∷ [])) (to_r1 3 16)
   pub taken_early : BreaksRule8 (moved_before (list_row r1 1 (home 2 64) ∷ [])) (to_r1 2 16)
+  pub other_side : BreaksRule8 passed_over (to_r1 1 16)
   pub not_listed : BreaksRule9 (moved_before []) (to_r1 2 64)
   pub listed_unmoved : BreaksRule9 (example (idle 1) idle_cells (list_row r1 1 (home 1 16) ∷ [])) (to_r1 1 16)
   pub listed_elsewhere : BreaksRule9 (moved_before (list_row r1 1 (home 2 96) ∷ [])) (to_r1 2 64)
   pub listed_other_type : BreaksRule9 (example (active 1 (codes "001")) active_cells (list_row g1 3 (home 2 96) ∷ active_list)) (to_r1 2 16)
   pub behind_cursor : BreaksRule10 not_yet_copied
   pub before_cursor : BreaksRule10 copied_too_early
+  pub first_anchors : BreaksRule10 (anchored 1 1)
+  pub last_anchors : BreaksRule10 (anchored 2 2)
