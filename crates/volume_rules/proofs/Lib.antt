@@ -1,0 +1,15 @@
+pub mod Calls
+pub mod ExamplesBroken
+pub mod ExamplesKept
+pub mod Homes
+pub mod Homing
+pub mod Leading
+pub mod Listed
+pub mod Names
+pub mod Pointing
+pub mod Reading
+pub mod Roots
+pub mod Switch
+pub mod Tested
+pub mod Together
+pub mod Units

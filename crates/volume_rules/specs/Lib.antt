@@ -1,0 +1,10 @@
+pub mod Delta
+pub mod EventLaws
+pub mod Events
+pub mod Examples
+pub mod Laws
+pub mod Rules
+pub mod Target
+pub mod Tests
+pub mod View
+pub mod Volume

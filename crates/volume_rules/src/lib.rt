@@ -1,0 +1,29 @@
+//! The rules of a sound volume that no page is needed for, and what an event may do to them. There is no code here:
+//! definitions on functions and lists, and laws, each the contract of a function without code.
+//!
+//! - `specs/View.antt`: a partition as a map from home to segment, with its indirect list, its state and its rows;
+//! - `specs/Target.antt`: where a pointer to a segment leads;
+//! - `specs/Rules.antt`: the rules 6, 8, 9 and 10 of a partition;
+//! - `specs/Delta.antt`: what an event does, and what it owes.
+#![tactic(auto)]
+
+mod deltas;
+mod events;
+mod examples;
+mod pointers;
+mod telling;
+
+pub use deltas::{
+    deltas_keep_homes, deltas_keep_rule_6, deltas_keep_rule_8, deltas_keep_rule_9,
+    deltas_keep_rule_10, deltas_keep_rules,
+};
+pub use events::{
+    deletions_are_lawful, insertions_are_lawful, reorganizations_turn, replacements_are_lawful,
+    switches_are_lawful, turns_are_lawful, units_are_lawful,
+};
+pub use examples::{examples_are_broken, examples_are_kept};
+pub use pointers::{pointers_lead_home, roots_stand};
+pub use telling::tests_tell;
+
+#[cfg(test)]
+mod tests;

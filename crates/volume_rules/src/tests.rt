@@ -1,0 +1,24 @@
+use crate::*;
+
+// The laws are no more than their contracts; this calls each of them once.
+#[test]
+fn the_laws_can_be_called(_rt: HostRuntime) {
+    deltas_keep_homes();
+    deltas_keep_rule_6();
+    deltas_keep_rule_8();
+    deltas_keep_rule_9();
+    deltas_keep_rule_10();
+    deltas_keep_rules();
+    examples_are_kept();
+    examples_are_broken();
+    pointers_lead_home();
+    roots_stand();
+    tests_tell();
+    insertions_are_lawful();
+    replacements_are_lawful();
+    deletions_are_lawful();
+    turns_are_lawful();
+    reorganizations_turn();
+    units_are_lawful();
+    switches_are_lawful();
+}
