@@ -1,0 +1,6 @@
+pub mod Tree
+pub mod Listing
+pub mod Pointers
+pub mod Side
+pub mod Changes
+pub mod Examples
