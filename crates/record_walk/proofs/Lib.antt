@@ -3,3 +3,6 @@ pub mod Unique
 pub mod Hanging
 pub mod Setting
 pub mod ExampleSides
+pub mod Levels
+pub mod Splitting
+pub mod OnLists

@@ -3,4 +3,5 @@ pub mod Listing
 pub mod Pointers
 pub mod Side
 pub mod Changes
+pub mod Spans
 pub mod Examples

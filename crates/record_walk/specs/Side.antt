@@ -10,7 +10,7 @@ use Rattle.hal_schema.specs.declared.schema.Schema.{Schema}
 use Rattle.hal_schema.specs.Row.{row_key}
 use Rattle.hal_schema.specs.Roots.{partition_of, anchor_place, root_cmp}
 use Rattle.hal_schema.specs.Forest.{all_pairs}
-use Rattle.record_walk.specs.Tree.{Occurrence, Twins, no_segment, segment, Chains, no_chain, chain, firsts_of, HangIn, times_in, are_chains_of}
+use Rattle.record_walk.specs.Tree.{Occurrence, Twins, no_segment, segment, Chains, no_chain, chain, firsts_of, HangIn, times_in, are_roots}
 use Rattle.record_walk.specs.Listing.{placed}
 
 -- a row of a root set: under a root key the home of that root (PHIDAM), under an anchor's number in four bytes that of the anchor's first root (PHDAM)
@@ -64,7 +64,7 @@ pub record IsSideOf (schema : Schema) (place : ℕ) (cells : ℕ → Option Cell
   pub rows_are_keyed : are_keyed schema rows trees ≡ true
   -- rule 5: the walk meets cells of the wanted types, none of them copied; each cell that isn't copied it meets just once
   pub hangs : HangIn (seen schema.phdam cells) trees
-  pub typed : are_chains_of schema.types (map (λ row. 1) rows) trees ≡ true
+  pub typed : are_roots schema.types trees ≡ true
   pub once : (home : ℕ) → times_in home trees ≤ 1
   pub all_met : (home : ℕ) (cell : Cell) → cells home ≡ Some cell → cell.copied ≡ false → 0 < times_in home trees
   -- rule 7: each root belongs to the partition, and their keys rise in the order of roots

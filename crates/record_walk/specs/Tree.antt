@@ -84,6 +84,11 @@ abbrev mutual
   are_chains_of types (code ∷ codes) no_chain = false
   are_chains_of types (code ∷ codes) (chain twins more) = are_of types code twins && are_chains_of types codes more
 
+-- the chains of a side: each is one of roots
+abbrev pub are_roots : List SegType → Chains → Bool
+are_roots types no_chain = true
+are_roots types (chain twins more) = are_of types 1 twins && are_roots types more
+
 -- the homes that are met in a tree, in hierarchic sequence
 abbrev mutual
   pub homes_of : Twins → List ℕ

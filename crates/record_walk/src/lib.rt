@@ -16,9 +16,14 @@
 #![tactic(auto)]
 
 mod examples;
+mod listed;
 mod walk;
 
 pub use examples::{broken_sides, example_sides};
+pub use listed::{
+    cuts_are_spans, new_segments_are_listed, new_twins_stand_behind_spans,
+    replaced_content_is_listed,
+};
 pub use walk::{
     changes_outside_leave, cuts_hang, met_cells_stand, new_segments_hang, replaced_content_hangs,
     trees_are_unique,

@@ -11,4 +11,8 @@ fn the_laws_can_be_called(_rt: HostRuntime) {
     new_segments_hang();
     cuts_hang();
     replaced_content_hangs();
+    new_segments_are_listed();
+    new_twins_stand_behind_spans();
+    cuts_are_spans();
+    replaced_content_is_listed();
 }
