@@ -11,6 +11,7 @@ use Rattle.hal_schema.specs.SegType.{type_of, parent_code, level_of, is_child}
 use Rattle.hal_schema.specs.Row.{row_level}
 use Rattle.record_walk.specs.Tree.{Occurrence, Twins, no_segment, segment, Chains, no_chain, chain, child_codes, are_of, are_chains_of, are_roots}
 use Rattle.record_walk.specs.Listing.{Placed, placed, list_of, list_in}
+use Rattle.record_walk.specs.Spans.{starts_upto}
 
 -- a type is one level below its parent
 abbrev pub Deepens : List SegType → Type 0
@@ -85,11 +86,6 @@ mutual
       all_append (is_deep types n) (list_of parent twins) (list_in parent more) (deep types deepens n code parent twins p.0 (omega (arith, le, same))) (deep_in types deepens n level codes (all.1) parent more p.1 le)
 
 -- ---- where a list begins
-
--- the first row, if there is one, is at most so deep
-abbrev pub starts_upto : List SegType → ℕ → List Placed → Bool
-starts_upto types n [] = true
-starts_upto types n (p ∷ list) = nat_le (row_level types p.row) n
 
 pub starts_append : (types : List SegType) (n : ℕ) (xs ys : List Placed) → starts_upto types n xs ≡ true → starts_upto types n ys ≡ true → starts_upto types n (xs ++ ys) ≡ true
 starts_append types n [] ys a b = b

@@ -6,3 +6,4 @@ pub mod ExampleSides
 pub mod Levels
 pub mod Splitting
 pub mod OnLists
+pub mod ByName

@@ -17,8 +17,8 @@ use Rattle.record_walk.specs.Tree.{Occurrence, Twins, no_segment, segment, Chain
 use Rattle.record_walk.specs.Listing.{Placed, placed, list_of, list_in}
 use Rattle.record_walk.specs.Pointers.{Pointer, Behind, Below, Root, with_chain, in_home, with_pointer, bare, before_twins, behind_first, without_segment}
 use Rattle.record_walk.specs.Changes.{leads_to}
-use Rattle.record_walk.specs.Spans.{lies_below, span_at, without_span_at, replaced_at, AreRecords, IsIn, NewSegmentsAreListed, NewTwinsStandBehindSpans, CutsAreSpans, ReplacedContentIsListed}
-use Rattle.record_walk.proofs.Levels.{Deepens, children_level, typed, is_deep, deep_in, starts_upto, starts_append, starts_of, starts_less, ones, roots_typed, ones_level}
+use Rattle.record_walk.specs.Spans.{lies_below, starts_upto, span_at, without_span_at, replaced_at, AreRecords, IsIn, NewSegmentsAreListed, NewTwinsStandBehindSpans, CutsAreSpans, ReplacedContentIsListed}
+use Rattle.record_walk.proofs.Levels.{Deepens, children_level, typed, is_deep, deep_in, starts_append, starts_of, starts_less, ones, roots_typed, ones_level}
 use Rattle.record_walk.proofs.Splitting.{Split, split_in, ChainIn, chain_in}
 
 pub deepens : SchemasAreKept → (schema : Schema) → Deepens schema.types
@@ -72,11 +72,11 @@ none_at home (p ∷ list) h = by (p.home == home) refl (none_at home list (omega
     by false e rest = and_from (not (is_at home p)) (list_all (λ q. not (is_at home q)) list) (not_from_false (p.home == home) e) rest
 
 -- a row that is met once has none of its home before or behind it
-record Alone (front : List Placed) (p : Placed) (rest : List Placed) : Type 0 where
+pub record Alone (front : List Placed) (p : Placed) (rest : List Placed) : Type 0 where
   pub before : list_all (λ q. not (is_at p.home q)) front ≡ true
   pub behind : list_all (λ q. not (is_at p.home q)) rest ≡ true
 
-alone_at : (trees : Chains) → ((home : ℕ) → times_in home trees ≤ 1) → (front : List Placed) (p : Placed) (rest : List Placed) → list_in None trees ≡ front ++ p ∷ rest → Alone front p rest
+pub alone_at : (trees : Chains) → ((home : ℕ) → times_in home trees ≤ 1) → (front : List Placed) (p : Placed) (rest : List Placed) → list_in None trees ≡ front ++ p ∷ rest → Alone front p rest
 unfolding count
 alone_at trees once front p rest was =
     let own : ◌≡◌ {A = ℕ} (cond (p.home == p.home) 1 0) 1 = ap (λ (c : Bool). cond {A = ℕ} c 1 0) (eq-eqb p.home p.home refl) in
@@ -250,8 +250,9 @@ new_twins_stand_behind_spans kept schema cells firsts trees prior new kinds r m 
     let next : List Placed = list_of x.parent x.next in
     let whole : list_in None trees ≡ x.front ++ first ∷ (below ++ (next ++ x.back)) = x.was ∙ ap (λ l. x.front ++ first ∷ l) (append_assoc below next x.back) in
     let alone = alone_at trees r.once x.front first (below ++ (next ++ x.back)) whole in
-    let span = span_is types x.front first below (next ++ x.back) alone.before (below_lies types (deepens kept schema) x.parent x.s x.below x.next x.typed)
-    (starts_append types (level_of types x.s.code) next x.back (starts_of types (level_of types x.s.code) x.s.code x.parent x.next t.later (omega arith)) x.upto) in
+    let deeper = below_lies types (deepens kept schema) x.parent x.s x.below x.next x.typed in
+    let upto = starts_append types (level_of types x.s.code) next x.back (starts_of types (level_of types x.s.code) x.s.code x.parent x.next t.later (omega arith)) x.upto in
+    let span = span_is types x.front first below (next ++ x.back) alone.before deeper upto in
     record {
       twin = first;
       below = below;
@@ -259,6 +260,8 @@ new_twins_stand_behind_spans kept schema cells firsts trees prior new kinds r m 
       back = next ++ x.back;
       at = x.at;
       span = subst (λ (n : ℕ). span_at types (list_in None trees) n ≡ first ∷ below) x.at (ap (λ l. span_at types l first.home) whole ∙ span.span);
+      deeper = deeper;
+      next = upto;
       whole = whole;
       placed_in = x.is ∙ ap (λ l. x.front ++ first ∷ l) (append_assoc below (placed x.parent new ∷ (list_in (Some new.name) (bare kinds) ++ next)) x.back
           ∙ ap (λ l. below ++ placed x.parent new ∷ ((l ++ next) ++ x.back)) (bare_list (Some new.name) kinds));

@@ -10,8 +10,9 @@ use Rattle.segment_blocks.specs.declared.tile.Cell.{Cell}
 use Rattle.record_walk.specs.Tree.{Occurrence, Twins, no_segment, segment, Chains, no_chain, chain, first_of, firsts_of, Hangs, HangIn, here, times, times_in, child_codes, are_of, are_chains_of}
 use Rattle.record_walk.specs.Listing.{Placed, placed, list_of, list_in}
 use Rattle.record_walk.specs.Pointers.{with_chain, at_home, in_home}
+use Rattle.record_walk.specs.Spans.{starts_upto}
 use Rattle.record_walk.proofs.Homes.{here_at, here_off}
-use Rattle.record_walk.proofs.Levels.{Deepens, AtLevel, children_level, Typed, typed, starts_upto, starts_append, starts_of, starts_in}
+use Rattle.record_walk.proofs.Levels.{Deepens, AtLevel, children_level, Typed, typed, starts_append, starts_of, starts_in}
 
 -- ---- a home that isn't met
 

@@ -4,4 +4,5 @@ pub mod Pointers
 pub mod Side
 pub mod Changes
 pub mod Spans
+pub mod Named
 pub mod Examples

@@ -1,9 +1,10 @@
 -- What a change of trees is on their list. A row is found by its home, so that nothing is asked of names.
-use Rattle.std.specs.Prelude.{◌≡◌, ℕ, ◌<◌, ◌≤◌, ◌==◌, Bool, true, if◌then◌else◌, List, [], ◌∷◌, ◌++◌, length, map, drop, take_while, Option, None, Some}
-use Rattle.std.specs.List.{prefix_len}
+use Rattle.std.specs.Prelude.{◌≡◌, ℕ, ◌<◌, ◌≤◌, ◌==◌, nat_le, Bool, true, if◌then◌else◌, List, [], ◌∷◌, ◌++◌, length, map, drop, take_while, Option, None, Some}
+use Rattle.std.specs.List.{list_all, prefix_len}
 use Rattle.hal_base.specs.declared.place.Ilk.{Ilk}
 use Rattle.hal_schema.specs.declared.schema.SegType.{SegType}
 use Rattle.hal_schema.specs.declared.schema.Schema.{Schema}
+use Rattle.hal_schema.specs.Row.{row_level}
 use Rattle.hal_schema.specs.Span.{is_deeper, with_content}
 use Rattle.segment_blocks.specs.declared.tile.Cell.{Cell}
 use Rattle.record_walk.specs.Tree.{Occurrence, Chains, times_in, are_roots}
@@ -13,6 +14,11 @@ use Rattle.record_walk.specs.Changes.{stands_in, leads_to, HangFrom}
 
 abbrev pub lies_below : List SegType → Placed → Placed → Bool
 lies_below types p q = is_deeper types p.row q.row
+
+-- the first row, if there is one, is at most so deep
+abbrev pub starts_upto : List SegType → ℕ → List Placed → Bool
+starts_upto types n [] = true
+starts_upto types n (p ∷ list) = nat_le (row_level types p.row) n
 
 -- the row at a home and the rows that follow it, up to the next one that isn't deeper
 abbrev pub span_at : List SegType → List Placed → ℕ → List Placed
@@ -60,6 +66,8 @@ pub record ComesBehind (types : List SegType) (prior : ℕ) (new : Occurrence) (
   pub back : List Placed
   pub at : twin.home ≡ prior
   pub span : span_at types old prior ≡ twin ∷ below
+  pub deeper : list_all (lies_below types twin) below ≡ true
+  pub next : starts_upto types (row_level types twin.row) back ≡ true
   pub whole : old ≡ front ++ ((twin ∷ below) ++ back)
   pub placed_in : now ≡ front ++ ((twin ∷ below) ++ placed twin.row.parent new ∷ back)
 

@@ -17,6 +17,7 @@
 
 mod examples;
 mod listed;
+mod named;
 mod walk;
 
 pub use examples::{broken_sides, example_sides};
@@ -24,6 +25,7 @@ pub use listed::{
     cuts_are_spans, new_segments_are_listed, new_twins_stand_behind_spans,
     replaced_content_is_listed,
 };
+pub use named::{homes_are_names, new_twins_are_inserted};
 pub use walk::{
     changes_outside_leave, cuts_hang, met_cells_stand, new_segments_hang, replaced_content_hangs,
     trees_are_unique,

@@ -15,4 +15,6 @@ fn the_laws_can_be_called(_rt: HostRuntime) {
     new_twins_stand_behind_spans();
     cuts_are_spans();
     replaced_content_is_listed();
+    homes_are_names();
+    new_twins_are_inserted();
 }
