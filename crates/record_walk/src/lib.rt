@@ -1,0 +1,35 @@
+//! The walk of one side of a partition, as definitions with laws. Of storage it knows no more than which cell stands at a
+//! home, which is a cell's address within the side.
+//!
+//!     root row ──► root ──twin──► next root of the anchor (PHDAM alone)
+//!                   │
+//!                   ├─ first child of type 2 ──► C ──twin──► C
+//!                   │                            └─ first child of type 3 ──► G
+//!                   └─ first child of type 4 ──► U
+//!
+//! A record is a finite tree: the twins behind a pointer, and below each segment the twins of each of its child types
+//! (`Tree`). A tree hangs in cells where each cell is what the tree says. `Listing` has its rows in hierarchic sequence,
+//! each with its home; `Pointers` what a changed pointer makes of it; `Side` which cells and rows of a root set are a side,
+//! part by part of the rules of a sound volume.
+//!
+//! Each law is the contract of a function without code; a proof above calls it and has the law.
+#![tactic(auto)]
+
+mod examples;
+mod listed;
+mod named;
+mod walk;
+
+pub use examples::{broken_sides, example_sides};
+pub use listed::{
+    cuts_are_spans, new_segments_are_listed, new_twins_stand_behind_spans,
+    replaced_content_is_listed,
+};
+pub use named::{homes_are_names, new_twins_are_inserted};
+pub use walk::{
+    changes_outside_leave, cuts_hang, met_cells_stand, new_segments_hang, replaced_content_hangs,
+    trees_are_unique,
+};
+
+#[cfg(test)]
+mod tests;

@@ -1,0 +1,20 @@
+use crate::*;
+
+// The laws are no more than their contracts; this calls each of them once.
+#[test]
+fn the_laws_can_be_called(_rt: HostRuntime) {
+    example_sides();
+    broken_sides();
+    trees_are_unique();
+    met_cells_stand();
+    changes_outside_leave();
+    new_segments_hang();
+    cuts_hang();
+    replaced_content_hangs();
+    new_segments_are_listed();
+    new_twins_stand_behind_spans();
+    cuts_are_spans();
+    replaced_content_is_listed();
+    homes_are_names();
+    new_twins_are_inserted();
+}
