@@ -1,7 +1,8 @@
 -- How an opening goes on from step to step.
-use Rattle.std.proofs.Common.{◌≡◌, ⊎_elim, ℕ, ◌+◌, ◌*◌, ◌≤◌, List, [], ◌∷◌, length, get_or, Option, None, Some, option_map, true, false, ◌==◌, refl, sym, ◌∙◌, ap, subst, arith}
+use Rattle.std.proofs.Common.{◌≡◌, ⊎_elim, ℕ, ◌+◌, ◌*◌, ◌≤◌, List, [], ◌∷◌, length, take, min, get_or, Option, None, Some, option_map, true, false, ◌==◌, refl, sym, ◌∙◌, ap, subst, arith}
 use Rattle.std.proofs.lemmas.Option.{none-some, same_Some}
 use Rattle.std.proofs.lemmas.Bool.{cases_lt}
+use Rattle.std.proofs.lemmas.List.{take_all}
 use Rattle.hal_base.specs.Disk.{Torn, written}
 use Rattle.hal_base.specs.Stops.{LeavesOnly, TornFrom}
 use Rattle.hal_base.proofs.StopLemmas.{leaves-now, leaves-weaken}
@@ -19,19 +20,31 @@ use Rattle.block_journal.proofs.Made.{Start, made-before, became-so}
 use Rattle.block_journal.proofs.Redoing.{redo_settled}
 use Rattle.block_journal.specs.JournalLaw.{became-waits, keeps_refl, redone_closed}
 
+nothing_made : (first count : ℕ) (y : List ℕ) → RedoMakes first count y y
+nothing_made first count y = record { whole = λ long. (refl, keeps_refl first count y); short = λ less. take_all (length y) y (omega arith) }
+
 pub redo_start : (first count : ℕ) {image : Option (List ℕ)} {outcomes : List ℕ → List ℕ → Type 0} → IsExact image outcomes → Start (RedoMakes first count) image outcomes
-redo_start first count exact = record { same = λ y told long. (refl, keeps_refl first count y); exact = exact }
+redo_start first count exact = record { same = λ y told. nothing_made first count y; exact = exact }
 
 pub redo_waits : (first count : ℕ) {image next : Option (List ℕ)} → next ≡ image → Became (RedoMakes first count) image next
-redo_waits first count is = became-waits (λ y told long. (refl, keeps_refl first count y)) is
+redo_waits first count is = became-waits (λ y told. nothing_made first count y) is
+
+-- the bytes below a write that was done in part
+kept_below : (place n : ℕ) (y x : List ℕ) → length y ≤ place → Torn place n y x → take (length y) x ≡ y
+kept_below place n y x below torn =
+    let least : min place (length y) ≡ length y = omega arith in
+    subst (λ (k : ℕ). take k x ≡ y) least (torn.before ∙ take_all place y below)
 
 -- an image that is short is filled up
 module _ (first count place n : ℕ) (image : Option (List ℕ)) (is : place + 1 ≡ first + 4096 * count) (short : (y : List ℕ) → image ≡ Some y → length y ≤ place) where
   filled : (y x : List ℕ) → image ≡ Some y → Torn place n y x → RedoMakes first count y x
-  filled y x told torn long = absurd (omega (arith, short y told, long, is))
+  filled y x told torn = record {
+    whole = λ long. absurd (omega (arith, short y told, long, is));
+    short = λ less. kept_below place n y x (short y told) torn;
+  }
 
-  pub fill_stops : {a b : ℕ} {past at : ℕ → List ℕ → List ℕ → Type 0} → LeavesOnly a b past at (TornFrom (past a) place n) → LeavesOnly a b past at (MadeFrom (RedoMakes first count) (past a) image)
-  fill_stops more = leaves-weaken more (λ x s from. (λ y told long. absurd (omega (arith, short y told, long, is)), (from.0, from.1)))
+  pub fill_stops : {a b : ℕ} {past at : ℕ → List ℕ → List ℕ → Type 0} → IsExact image (past a) → LeavesOnly a b past at (TornFrom (past a) place n) → LeavesOnly a b past at (MadeFrom (RedoMakes first count) (past a) image)
+  fill_stops exact more = leaves-weaken more (λ x s from. (λ y told. filled y x told (subst (λ (z : List ℕ). Torn place n z x) (exact.only y told from.0 s from.1) from.2), (from.0, from.1)))
 
   pub fill_told : {last : Option (List ℕ)} → Became (Torn place n) image last → Became (RedoMakes first count) image last
   fill_told more = became-so more filled
@@ -59,7 +72,7 @@ opens_at {a} {b} {c} {past} {mid} {at} first count told next is so_far exact mor
     from x s made = (λ y is_told. made.0 y (is ∙ is_told), (made.1.0, leaves-now so_far (λ x s left. left) made.1.0 s made.1.1))
 
 pub redone_between : {first count : ℕ} {old mid new last : Option (List ℕ)} → mid ≡ old → last ≡ new → IsRedone first count mid new → IsRedone first count old last
-redone_between same is done = record { has = λ y told. let h = done.has y (same ∙ told) in (h.0, is ∙ h.1, h.2, h.3) }
+redone_between same is done = record { has = λ y told. let h = done.has y (same ∙ told) in (h.0, is ∙ h.1, h.2, h.3, h.4) }
 
 pub filled_redone : {first count : ℕ} {R : List ℕ → List ℕ → Type 0} {old new : Option (List ℕ)} → IsReady first count old new → Became R old new → ((y : List ℕ) → old ≡ Some y → is_open y ≡ false) → IsRedone first count old new
 filled_redone {first} {count} ready same closed = record {
@@ -70,6 +83,7 @@ filled_redone {first} {count} ready same closed = record {
         t.1,
         record { long = ready.long t.0 t.1; closed = ap (λ (b : ℕ). b == 1) (bytes 4096) ∙ closed y told },
         blocks_at-ext first count t.0 y (record { byte = λ i low high. bytes i }) ∙ sym (redone_closed first count y (closed y told)),
+        λ less. bytes,
       );
 }
 
@@ -87,7 +101,7 @@ pub redo_done : (first count : ℕ) (cs : List Change) (image last : Option (Lis
 redo_done first count cs image last behind whole redo is = record {
   has = λ y told.
       let ends = redo_settled first count cs y behind whole (redo y told) in
-      (written 4096 (0 ∷ []) (put_image first cs y), is y told, ends.0, ends.1);
+      (written 4096 (0 ∷ []) (put_image first cs y), is y told, ends.0, ends.1, λ less. absurd (omega (arith, less, (redo y told).long)));
 }
 
 -- the blocks that were read stand on the site

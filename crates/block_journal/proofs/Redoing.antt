@@ -68,15 +68,21 @@ module _ (first count : ℕ) (cs : List Change) (y : List ℕ) (behind : 8192 �
 
   -- in each step the same redo and front
   pub placing_makes : (x : List ℕ) → Places first count cs y x → RedoMakes first count y x
-  placing_makes x placed enough =
-      let p = placed enough in
-      (placing_keeps x p.0, blocks_front first count y x behind long cs whole redo.body p.0 p.1)
+  placing_makes x placed = record {
+    whole = λ enough.
+        let p = placed enough in
+        (placing_keeps x p.0, blocks_front first count y x behind long cs whole redo.body p.0 p.1);
+    short = λ less. absurd (omega (arith, less, long));
+  }
 
   pub closing_makes : (x : List ℕ) → Torn 4096 1 (put_image first cs y) x → RedoMakes first count y x
-  closing_makes x torn enough =
+  closing_makes x torn =
       let placed = blocks_front first count y (put_image first cs y) behind long cs whole redo.body placed_outside same_long in
       let body = blocks_body first count y (put_image first cs y) behind long cs whole redo.body placed_outside same_long in
-      (closing_keeps x torn, keeps_then placed (gate_front first count (put_image first cs y) x behind long_placed body torn))
+      record {
+        whole = λ enough. (closing_keeps x torn, keeps_then placed (gate_front first count (put_image first cs y) x behind long_placed body torn));
+        short = λ less. absurd (omega (arith, less, long));
+      }
 
   -- the gate is closed
   pub redo_settled : IsSettled first count (written 4096 (0 ∷ []) (put_image first cs y)) × (blocks_at first count (written 4096 (0 ∷ []) (put_image first cs y)) ≡ redone first count y)

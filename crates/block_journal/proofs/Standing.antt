@@ -1,15 +1,17 @@
 -- What a journal tells, by what its site tells.
-use Rattle.std.proofs.Common.{◌≡◌, ◌⊎◌, inl, inr, ⊎_elim, ℕ, ◌<◌, ◌≤◌, Bool, true, false, List, [], ◌++◌, length, set, Option, None, Some, option_map, Result, Ok, Err, OnOk, OnErr, is_err, refl, sym, ◌∙◌, ap, subst, arith, cond, nat_le}
+use Rattle.std.proofs.Common.{◌≡◌, ◌⊎◌, inl, inr, ⊎_elim, ℕ, ◌<◌, ◌≤◌, Bool, true, false, ◌==◌, List, [], ◌++◌, length, set, Option, None, Some, option_map, Result, Ok, Err, OnOk, OnErr, is_err, refl, sym, ◌∙◌, ap, subst, arith, cond, nat_le}
 use Rattle.std.proofs.lemmas.Option.{none-some, same_Some}
-use Rattle.std.proofs.lemmas.Bool.{cases_Bool, leb-true, le-leb, true≢false}
+use Rattle.std.proofs.lemmas.Bool.{cases_Bool, leb-true, le-leb, eqb-true, true≢false}
 use Rattle.std.proofs.lemmas.List.{append-nil}
 use Rattle.std.specs.Io.KnownBytes.{append_known}
 use Rattle.std.specs.BTreeMap.{insert_entry}
 use Rattle.std.specs.Ordering.{nat_cmp}
 use Rattle.hal_base.specs.Room.{HasRoom, HasSayRoom}
-use Rattle.hal_base.specs.StoreCalls.{StoreView, LeavesSame, NoCall}
+use Rattle.hal_base.specs.StoreCalls.{StoreView, LeavesSame, NoCall, Commits}
+use Rattle.hal_base.specs.declared.outcome.JournalFault.{JournalFault}
+use Rattle.hal_base.proofs.StoreLemmas.{say_room_none}
 use Rattle.hal_base.specs.Stops.{LeavesOnly, IsTold, CommitLeaves, SayLeaves, SaidFrom, Read}
-use Rattle.hal_base.proofs.StopLemmas.{leaves-read, leaves-now, leaves-weaken}
+use Rattle.hal_base.proofs.StopLemmas.{not_yet, leaves-read, leaves-now, leaves-weaken}
 use Rattle.block_journal.specs.Change.{Change}
 use Rattle.block_journal.specs.Commit.{IsSettled, CommitMakes, HasChanges}
 use Rattle.block_journal.specs.Device.{Became, MadeFrom, IsExact}
@@ -52,6 +54,34 @@ commit_standing first count cs kept (Some y) new stands became blocks is =
 
 pub same_standing : (list committed standing : Option (List (List ℕ))) → standing ≡ committed → (blocks : List (List ℕ)) → standing ≡ Some blocks → IsTold committed blocks ⊎ IsTold list blocks
 same_standing list committed standing is blocks told = inl (subst (λ (l : Option (List (List ℕ))). IsTold l blocks) (sym told ∙ is) refl)
+
+-- something is staged
+pub is_dirty : {n : ℕ} {none : Bool} → (none ≡ true → n ≡ 0) × (n ≡ 0 → none ≡ true) → none ≡ false → (n == 0) ≡ true → ⊥
+is_dirty {n} is some clean = true≢false (sym (is.1 (eqb-true n 0 clean)) ∙ some)
+
+on_err : {T E P : Type 0} (result : Result T E) → P → OnErr result P
+on_err (Ok x) p = tt
+on_err (Err e) p = p
+
+-- a commit that changes nothing
+pub commits_nothing : {T : Type 0} (result : Result T JournalFault) (view : StoreView) → OnOk result (view.committed ≡ view.list) → OnOk result (view.clean ≡ true) → view.standing ≡ view.committed → (view.clean ≡ true → OnErr result ⊥) → Commits result view view
+commits_nothing result view done cleaned standing nothing =
+    let no_call : NoCall view view = record { moment = refl; stops = not_yet view.moment view.left_at _; disk_faults = refl } in
+    record {
+      done = done;
+      kept = on_err result refl;
+      cleaned = cleaned;
+      list = refl;
+      number = refl;
+      said = refl;
+      stops = not_yet view.moment view.left_at _;
+      standing = same_standing view.list view.committed view.standing standing;
+      memory = λ is. no_call;
+      nothing = λ clean. (nothing clean, no_call);
+      say_faults = refl;
+      room = say_room_none view.room view.disk_faults _;
+      fetches = refl;
+    }
 
 pub say_steady : (first count : ℕ) (kept : List (List ℕ)) (old new : Option (List ℕ)) (text : List ℕ) {a b : ℕ} {past at : ℕ → List ℕ → List ℕ → Type 0} → Stands first count kept old (past a) → new ≡ old → LeavesOnly a b past at (SaidFrom (past a) text) → IsSteady first first count count old new a b past at
 say_steady first count kept old new text stands is only = record {

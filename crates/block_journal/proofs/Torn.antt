@@ -160,5 +160,5 @@ module _ (first count : ℕ) (cs : List Change) (x : List ℕ) (b : Begins first
 
   pub redo_makes : (y : List ℕ) → RedoMakes first count (written 4096 (1 ∷ []) (written (first + 4096 * count) (body_bytes cs) x)) y → CommitMakes first count cs x y
   redo_makes y makes =
-      let m = makes long_opened in
+      let m = makes.whole long_opened in
       record { either = inr (m.0 ∙ redone_opened); front = keeps_then opened_front m.1 }

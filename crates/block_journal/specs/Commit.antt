@@ -11,12 +11,15 @@ pub record IsSettled (first count : ℕ) (image : List ℕ) : Type 0 where
 
 -- in every step of a commit: the redo is the blocks that were there, or these with the changes
 pub record CommitMakes (first count : ℕ) (changes : List Change) (before image : List ℕ) : Type 0 where
-  pub either : (redone first count image ≡ blocks_at first count before) ⊎ (redone first count image ≡ put_all changes (blocks_at first count before))
+  pub either :
+      (redone first count image ≡ blocks_at first count before)
+      ⊎ (redone first count image ≡ put_all changes (blocks_at first count before))
   pub front : KeepsFront first count before image
 
 -- the blocks are those that were there, with the changes
 pub record HasChanges (first count : ℕ) (changes : List Change) (before after : Option (List ℕ)) : Type 0 where
-  pub has : (old : List ℕ) → before ≡ Some old → (new : List ℕ) × (after ≡ Some new) × IsSettled first count new × (blocks_at first count new ≡ put_all changes (blocks_at first count old))
+  pub has : (old : List ℕ) → before ≡ Some old →
+      (new : List ℕ) × (after ≡ Some new) × IsSettled first count new × (blocks_at first count new ≡ put_all changes (blocks_at first count old))
 
 -- the byte that nothing is written past
 abbrev pub last_byte : ℕ → ℕ → ℕ

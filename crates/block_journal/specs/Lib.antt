@@ -4,6 +4,7 @@ pub mod Commit
 pub mod Device
 pub mod Front
 pub mod JournalLaw
+pub mod Opened
 pub mod Opening
 pub mod Placing
 pub mod Reads

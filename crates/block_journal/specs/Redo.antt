@@ -49,7 +49,8 @@ journal_of first count image = changes_at (journal_start first count + 8) (numbe
 
 -- The blocks that an image stands for: where its gate is open, with the blocks of its journal in their places.
 unfoldable pub redone : ℕ → ℕ → List ℕ → List (List ℕ)
-redone first count image = if is_open image then put_all (journal_of first count image) (blocks_at first count image) else blocks_at first count image
+redone first count image =
+    if is_open image then put_all (journal_of first count image) (blocks_at first count image) else blocks_at first count image
 
 -- the image with the changes' blocks written to their places, one after another
 unfoldable pub put_image : ℕ → List Change → List ℕ → List ℕ
@@ -67,4 +68,5 @@ body_bytes changes = to_be_bytes w32 (length changes) ++ to_be_bytes w32 1 ++ fl
 -- the numbers rise from `from` on and are below the count of blocks, and each has a whole block
 unfoldable pub are_changes : ℕ → ℕ → List Change → Bool
 are_changes from count [] = true
-are_changes from count (change ∷ changes) = nat_le from change.0 && nat_lt change.0 count && length change.1 == 4096 && are_changes (change.0 + 1) count changes
+are_changes from count (change ∷ changes) =
+    nat_le from change.0 && nat_lt change.0 count && length change.1 == 4096 && are_changes (change.0 + 1) count changes

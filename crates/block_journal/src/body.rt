@@ -3,7 +3,7 @@ ghost use Rattle.std.specs.Prelude.{◌≡◌, ◌+◌, ◌-◌, ◌*◌, ◌^�
 ghost use Rattle.hal_base.specs.Fault.{HasCause, HasCauseFor};
 ghost use Rattle.block_journal.specs.Device.{Looks};
 ghost use Rattle.block_journal.specs.Body.{AreThere, HasBody};
-ghost use Rattle.block_journal.specs.Reads.{ReadsWhole, ReadsNumber, ReadsChange, ReadsSize, ReadsBody, LacksBody};
+ghost use Rattle.block_journal.specs.Reads.{ReadsWhole, ReadsNumber, ReadsChange, ReadsChanges, ReadsSize, ReadsBody, LacksBody};
 ghost use Rattle.block_journal.specs.Redo.{changes_at, are_changes};
 
 use crate::change::Changes;
@@ -91,7 +91,7 @@ fn read_changes<T: Site>(
 ) -> Result<Changes, LoadFault>
     requires near { at ≤ 2 ^ 46 }
     requires within { (image : List ℕ) → T.image site.old ≡ Some image → at ≤ length image }
-    ensures changes { IfOk result (λ changes. (image : List ℕ) → T.image site.old ≡ Some image → AreThere at n count image × (changes.entries ≡ changes_at at n image)) }
+    ensures changes { IfOk result (λ changes. ReadsChanges at n count (T.image site.old) changes.entries) }
     ensures rise { IfOk result (λ changes. IsTrue (are_changes 0 count changes.entries)) }
     ensures damaged { IsErrOf result LoadFault.Damaged → (image : List ℕ) → T.image site.old ≡ Some image → AreThere at n count image → ⊥ }
     ensures leaves { Looks T.image T.said T.moment T.left_at T.disk_faults T.say_faults T.room site.old site.new }

@@ -3,9 +3,8 @@ ghost use Rattle.std.specs.Prelude.{◌≡◌, ◌+◌, ◌-◌, ◌*◌, ◌^�
 ghost use Rattle.std.specs.Option.{option_map};
 ghost use Rattle.hal_base.specs.Disk.{written, Torn};
 ghost use Rattle.hal_base.specs.Fault.{HasCause};
-ghost use Rattle.hal_base.specs.Room.{HasRoom};
-ghost use Rattle.hal_base.specs.Stops.{LeavesOnly, TornFrom};
-ghost use Rattle.block_journal.specs.Device.{Became, IsExact};
+ghost use Rattle.hal_base.specs.Stops.{TornFrom};
+ghost use Rattle.block_journal.specs.Device.{Became, StopsLeave, FitsBelow, IsExact};
 ghost use Rattle.block_journal.specs.Placing.{AreWhole, Places, PlacedFrom};
 ghost use Rattle.block_journal.specs.Redo.{journal_start, put_image};
 
@@ -20,10 +19,10 @@ pub(crate) fn write_synced<T: Site>(site: &mut T, at: u64, content: &[u8]) -> Re
     ensures exact { OnOk result (IsExact (T.image site.new) (T.left_at site.new (T.moment site.new))) }
     ensures told { Became (Torn at (length content.now)) (T.image site.old) (T.image site.new) }
     ensures said { T.said site.new ≡ T.said site.old }
-    ensures stops { LeavesOnly (T.moment site.old) (T.moment site.new) (T.left_at site.old) (T.left_at site.new) (TornFrom (T.left_at site.old (T.moment site.old)) at (length content.now)) }
+    ensures stops { StopsLeave T.moment T.left_at (λ now. TornFrom now at (length content.now)) site.old site.new }
     ensures cause { HasCause (T.disk_faults site.old) (T.disk_faults site.new) result }
     ensures say_faults { T.say_faults site.new ≡ T.say_faults site.old }
-    ensures room { HasRoom (T.room site.old) (T.room site.new) (T.disk_faults site.old) (T.disk_faults site.new) (λ room. at + length content.now ≤ room.0) }
+    ensures room { FitsBelow T.room T.disk_faults (at + length content.now) site.old site.new }
 {
     site.write_at(at, content)?;
     site.sync()
@@ -50,10 +49,10 @@ fn write_block<T: Site>(
     ensures image { OnOk result (T.image site.new ≡ option_map (written (first + 4096 * number) block.now) (T.image site.old)) }
     ensures told { Became (Places first count ((number, block.now) ∷ [])) (T.image site.old) (T.image site.new) }
     ensures said { T.said site.new ≡ T.said site.old }
-    ensures stops { LeavesOnly (T.moment site.old) (T.moment site.new) (T.left_at site.old) (T.left_at site.new) (PlacedFrom (T.left_at site.old (T.moment site.old)) first count ((number, block.now) ∷ [])) }
+    ensures stops { StopsLeave T.moment T.left_at (λ now. PlacedFrom now first count ((number, block.now) ∷ [])) site.old site.new }
     ensures cause { HasCause (T.disk_faults site.old) (T.disk_faults site.new) result }
     ensures say_faults { T.say_faults site.new ≡ T.say_faults site.old }
-    ensures room { HasRoom (T.room site.old) (T.room site.new) (T.disk_faults site.old) (T.disk_faults site.new) (λ room. journal_start first count ≤ room.0) }
+    ensures room { FitsBelow T.room T.disk_faults (journal_start first count) site.old site.new }
 {
     site.write_at(place_of(first, number), block)
 }
@@ -72,10 +71,10 @@ pub(crate) fn write_blocks<T: Site>(
     ensures exact { OnOk result (IsExact (T.image site.new) (T.left_at site.new (T.moment site.new))) }
     ensures told { Became (Places first count changes.now.entries) (T.image site.old) (T.image site.new) }
     ensures said { T.said site.new ≡ T.said site.old }
-    ensures stops { LeavesOnly (T.moment site.old) (T.moment site.new) (T.left_at site.old) (T.left_at site.new) (PlacedFrom (T.left_at site.old (T.moment site.old)) first count changes.now.entries) }
+    ensures stops { StopsLeave T.moment T.left_at (λ now. PlacedFrom now first count changes.now.entries) site.old site.new }
     ensures cause { HasCause (T.disk_faults site.old) (T.disk_faults site.new) result }
     ensures say_faults { T.say_faults site.new ≡ T.say_faults site.old }
-    ensures room { HasRoom (T.room site.old) (T.room site.new) (T.disk_faults site.old) (T.disk_faults site.new) (λ room. journal_start first count ≤ room.0) }
+    ensures room { FitsBelow T.room T.disk_faults (journal_start first count) site.old site.new }
 {
     for (number, block) in changes {
         write_block(site, first, count, *number, block)?;

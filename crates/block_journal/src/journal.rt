@@ -1,13 +1,10 @@
 // The journal: the blocks of the last commit, and the changes that are staged.
-ghost use Rattle.std.specs.Prelude.{◌≡◌, ◌≤◌, ◌^◌, ◌<◌, ◌%◌, All, ℕ, length, true, refl, ◌==◌, IsTrue, IfOk, IfErr, OnOk, MatchResult};
+ghost use Rattle.std.specs.Prelude.{◌≡◌, ◌≤◌, ◌^◌, ◌<◌, ◌%◌, All, ℕ, length, true, refl, ◌==◌, IsTrue, IfOk, IfErr, MatchResult};
 ghost use Rattle.std.specs.Option.{option_map};
-ghost use Rattle.hal_base.specs.Fault.{Rose};
-ghost use Rattle.hal_base.specs.Room.{HasRoom};
 ghost use Rattle.hal_base.specs.Stops.{Read};
 ghost use Rattle.block_journal.specs.Commit.{last_byte};
 ghost use Rattle.block_journal.specs.Redo.{are_changes, put_all, redone};
-ghost use Rattle.block_journal.specs.Device.{Became};
-ghost use Rattle.block_journal.specs.Redoing.{IsRedone, SameRedo, RedoMakes, OpensAt, IsDamaged, IsSound};
+ghost use Rattle.block_journal.specs.Opened.{IsOpened, IsRefused, LeavesSite, SyncsWithin, SyncsOrStops};
 ghost use Rattle.block_journal.specs.Stands.{Stands, told_where, say_room};
 ghost use Rattle.block_journal.specs.Steady.{IsSteady};
 
@@ -51,24 +48,16 @@ impl<T: Site> Journal<T> {
         requires multiple { first % 4096 ≡ 0 }
         requires behind { 8192 ≤ first }
         requires near { first ≤ 2 ^ 30 }
-        ensures committed { IfOk result (λ journal. (⟦<Journal<T> as Blocks>⟧.seen journal).committed ≡ option_map (redone first count) (T.image site)) }
-        ensures list { IfOk result (λ journal. (⟦<Journal<T> as Blocks>⟧.seen journal).list ≡ option_map (redone first count) (T.image site)) }
-        ensures place { IfOk result (λ journal. (journal.first ≡ first) × ((⟦<Journal<T> as Blocks>⟧.seen journal).number ≡ count)) }
-        ensures live { IfOk result (λ journal. IsTrue (⟦<Journal<T> as Blocks>⟧.seen journal).live) }
-        ensures clean { IfOk result (λ journal. (⟦<Journal<T> as Blocks>⟧.seen journal).clean ≡ true) }
-        ensures fetches { IfOk result (λ journal. (⟦<Journal<T> as Blocks>⟧.seen journal).fetches ≡ 0) }
-        ensures redone { IfOk result (λ journal. IsRedone first count (T.image site) (T.image journal.site)) }
-        ensures sound { OnOk result (IsSound first count (T.image site)) }
-        ensures volume { IfErr result (λ fault. fault.why ≡ OpenWhy.NotAVolume → ⊥) }
-        ensures damaged { IfErr result (λ fault. (rule : ℕ) → fault.why ≡ OpenWhy.Damaged rule → (rule ≡ 1) × (T.image fault.site ≡ T.image site) × IsDamaged first count (T.image site)) }
-        ensures cause { IfErr result (λ fault. fault.why ≡ OpenWhy.DiskFault → Rose (T.disk_faults site) (T.disk_faults fault.site)) }
-        ensures memory { IfErr result (λ fault. fault.why ≡ OpenWhy.Memory → SameRedo first count (T.image site) (T.image fault.site)) }
-        ensures told { MatchResult result (λ journal. Became (RedoMakes first count) (T.image site) (T.image journal.site)) (λ fault. Became (RedoMakes first count) (T.image site) (T.image fault.site)) }
-        ensures said { MatchResult result (λ journal. T.said journal.site ≡ T.said site) (λ fault. T.said fault.site ≡ T.said site) }
-        ensures stops { MatchResult result (λ journal. (synced : ℕ) × (synced ≤ T.moment journal.site) × OpensAt first count (T.image site) (T.moment site) (T.moment journal.site) (T.left_at site) (T.left_at journal.site) synced) (λ fault. (synced : ℕ) × OpensAt first count (T.image site) (T.moment site) (T.moment fault.site) (T.left_at site) (T.left_at fault.site) synced) }
-        ensures later { MatchResult result (λ journal. T.disk_faults site ≤ T.disk_faults journal.site) (λ fault. T.disk_faults site ≤ T.disk_faults fault.site) }
-        ensures say_faults { MatchResult result (λ journal. T.say_faults journal.site ≡ T.say_faults site) (λ fault. T.say_faults fault.site ≡ T.say_faults site) }
-        ensures room { MatchResult result (λ journal. HasRoom (T.room site) (T.room journal.site) (T.disk_faults site) (T.disk_faults journal.site) (λ room. last_byte first count ≤ room.0)) (λ fault. HasRoom (T.room site) (T.room fault.site) (T.disk_faults site) (T.disk_faults fault.site) (λ room. last_byte first count ≤ room.0)) }
+        ensures opened { IfOk result (λ journal.
+            IsOpened first count (T.image site) (T.image journal.site) journal.first (⟦<Journal<T> as Blocks>⟧.seen journal)) }
+        ensures refused { IfErr result (λ fault.
+            IsRefused first count (T.image site) (T.image fault.site) (T.disk_faults site) (T.disk_faults fault.site) fault.why) }
+        ensures leaves { MatchResult result
+            (λ journal. LeavesSite T.image T.said T.disk_faults T.say_faults T.room first count site journal.site)
+            (λ fault. LeavesSite T.image T.said T.disk_faults T.say_faults T.room first count site fault.site) }
+        ensures stops { MatchResult result
+            (λ journal. SyncsWithin T.image T.moment T.left_at first count site journal.site)
+            (λ fault. SyncsOrStops T.image T.moment T.left_at first count site fault.site) }
     {
         match load(alloc, &mut site, first, count) {
             Ok(kept) => Ok(Journal {

@@ -11,7 +11,8 @@ impl<T: Site> Journal<T> {
     /// where the image's gate is open, it has a body.
     pub fn stands_for_its_image(&self)
         requires { IsTrue (⟦<Journal<T> as Blocks>⟧.seen self.now).live }
-        ensures committed { (image : List ℕ) → T.image self.now.site ≡ Some image → (⟦<Journal<T> as Blocks>⟧.seen self.now).committed ≡ Some (redone self.now.first self.now.count image) }
+        ensures committed { (image : List ℕ) → T.image self.now.site ≡ Some image →
+            (⟦<Journal<T> as Blocks>⟧.seen self.now).committed ≡ Some (redone self.now.first self.now.count image) }
         ensures lawful { (image : List ℕ) → T.image self.now.site ≡ Some image → HasLawfulGate self.now.first self.now.count image }
     {}
 }

@@ -1,13 +1,11 @@
 // What an opening reads, and how it makes an image ready.
 ghost use Rattle.std.specs.Prelude.{◌≡◌, ◌+◌, ◌-◌, ◌*◌, ◌^◌, ◌<◌, ◌≤◌, ℕ, List, Some, All, length, OnOk, IfOk, IsErrOf, IsTrue};
 ghost use Rattle.hal_base.specs.Fault.{HasCause, HasCauseFor};
-ghost use Rattle.hal_base.specs.Room.{HasRoom};
-ghost use Rattle.hal_base.specs.Stops.{LeavesOnly};
-ghost use Rattle.block_journal.specs.Device.{Became, Looks, MadeFrom, IsExact};
+ghost use Rattle.block_journal.specs.Device.{Became, Looks, MadeFrom, StopsLeave, FitsBelow, IsExact};
 ghost use Rattle.block_journal.specs.Opening.{ReadsBlock, ReadsBlocks, IsReady};
 ghost use Rattle.block_journal.specs.Commit.{last_byte};
 ghost use Rattle.block_journal.specs.Redo.{journal_start, is_open};
-ghost use Rattle.block_journal.specs.Redoing.{IsRedone, SameRedo, RedoMakes, OpensAt, IsDamaged, IsSound};
+ghost use Rattle.block_journal.specs.Redoing.{IsRedone, SameRedo, RedoMakes, OpensOver, IsDamaged, IsSound};
 ghost use Rattle.block_journal.specs.Stands.{Stands};
 
 use crate::device::{place_of, write_synced};
@@ -27,10 +25,10 @@ pub(crate) fn fill<T: Site>(site: &mut T, first: u64, count: u32) -> Result<(), 
     ensures exact { OnOk result (IsExact (T.image site.new) (T.left_at site.new (T.moment site.new))) }
     ensures told { Became (RedoMakes first count) (T.image site.old) (T.image site.new) }
     ensures said { T.said site.new ≡ T.said site.old }
-    ensures stops { LeavesOnly (T.moment site.old) (T.moment site.new) (T.left_at site.old) (T.left_at site.new) (MadeFrom (RedoMakes first count) (T.left_at site.old (T.moment site.old)) (T.image site.old)) }
+    ensures stops { StopsLeave T.moment T.left_at (λ now. MadeFrom (RedoMakes first count) now (T.image site.old)) site.old site.new }
     ensures cause { HasCause (T.disk_faults site.old) (T.disk_faults site.new) result }
     ensures say_faults { T.say_faults site.new ≡ T.say_faults site.old }
-    ensures room { HasRoom (T.room site.old) (T.room site.new) (T.disk_faults site.old) (T.disk_faults site.new) (λ room. journal_start first count ≤ room.0) }
+    ensures room { FitsBelow T.room T.disk_faults (journal_start first count) site.old site.new }
 {
     let mut last = [0u8; 1];
     let end = place_of(first, count);
@@ -105,10 +103,10 @@ pub(crate) fn load<T: Site>(
     ensures memory { IsErrOf result LoadFault.Memory → SameRedo first count (T.image site.old) (T.image site.new) }
     ensures told { Became (RedoMakes first count) (T.image site.old) (T.image site.new) }
     ensures said { T.said site.new ≡ T.said site.old }
-    ensures stops { (synced : ℕ) × OnOk result (synced ≤ T.moment site.new) × OpensAt first count (T.image site.old) (T.moment site.old) (T.moment site.new) (T.left_at site.old) (T.left_at site.new) synced }
+    ensures stops { (synced : ℕ) × OnOk result (synced ≤ T.moment site.new) × OpensOver T.image T.moment T.left_at first count site.old site.new synced }
     ensures cause { HasCauseFor (T.disk_faults site.old) (T.disk_faults site.new) result LoadFault.DiskFault }
     ensures say_faults { T.say_faults site.new ≡ T.say_faults site.old }
-    ensures room { HasRoom (T.room site.old) (T.room site.new) (T.disk_faults site.old) (T.disk_faults site.new) (λ room. last_byte first count ≤ room.0) }
+    ensures room { FitsBelow T.room T.disk_faults (last_byte first count) site.old site.new }
 {
     site.sync()?;
     settle(alloc, site, first, count)?;

@@ -16,10 +16,8 @@
 // steps are the redo of the journal that is open then, as an opening does it.
 ghost use Rattle.std.specs.Prelude.{◌≡◌, ◌+◌, ◌*◌, ◌^◌, ◌<◌, ◌≤◌, ℕ, List, length, OnOk, IsTrue};
 ghost use Rattle.hal_base.specs.Fault.{HasCause};
-ghost use Rattle.hal_base.specs.Room.{HasRoom};
-ghost use Rattle.hal_base.specs.Stops.{LeavesOnly};
 ghost use Rattle.block_journal.specs.Commit.{IsSettled, CommitMakes, HasChanges, last_byte};
-ghost use Rattle.block_journal.specs.Device.{Became, MadeFrom, IsExact};
+ghost use Rattle.block_journal.specs.Device.{Became, MadeFrom, StopsLeave, FitsBelow, IsExact};
 ghost use Rattle.block_journal.specs.Redo.{are_changes, body_bytes};
 
 use crate::change::Changes;
@@ -49,10 +47,10 @@ pub(crate) fn commit_changes<T: Site>(
     ensures exact { OnOk result (IsExact (T.image site.new) (T.left_at site.new (T.moment site.new))) }
     ensures told { Became (CommitMakes first count changes.now.entries) (T.image site.old) (T.image site.new) }
     ensures said { T.said site.new ≡ T.said site.old }
-    ensures stops { LeavesOnly (T.moment site.old) (T.moment site.new) (T.left_at site.old) (T.left_at site.new) (MadeFrom (CommitMakes first count changes.now.entries) (T.left_at site.old (T.moment site.old)) (T.image site.old)) }
+    ensures stops { StopsLeave T.moment T.left_at (λ now. MadeFrom (CommitMakes first count changes.now.entries) now (T.image site.old)) site.old site.new }
     ensures cause { HasCause (T.disk_faults site.old) (T.disk_faults site.new) result }
     ensures say_faults { T.say_faults site.new ≡ T.say_faults site.old }
-    ensures room { HasRoom (T.room site.old) (T.room site.new) (T.disk_faults site.old) (T.disk_faults site.new) (λ room. last_byte first count ≤ room.0) }
+    ensures room { FitsBelow T.room T.disk_faults (last_byte first count) site.old site.new }
 {
     write_synced(site, place_of(first, count), body)?;
     write_synced(site, GATE, &[1])?;

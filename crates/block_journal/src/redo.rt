@@ -2,11 +2,9 @@
 // is on the disk the body stands behind the blocks, and redoes them once more after a stop.
 ghost use Rattle.std.specs.Prelude.{◌≡◌, ◌+◌, ◌*◌, ◌^◌, ◌≤◌, ℕ, List, Some, length, true, OnOk, IsErrOf};
 ghost use Rattle.hal_base.specs.Fault.{HasCause, HasCauseFor};
-ghost use Rattle.hal_base.specs.Room.{HasRoom};
-ghost use Rattle.hal_base.specs.Stops.{LeavesOnly};
 ghost use Rattle.block_journal.specs.Body.{HasBody};
 ghost use Rattle.block_journal.specs.Commit.{last_byte};
-ghost use Rattle.block_journal.specs.Device.{Became, MadeFrom, IsExact};
+ghost use Rattle.block_journal.specs.Device.{Became, MadeFrom, StopsLeave, FitsBelow, IsExact};
 ghost use Rattle.block_journal.specs.Placing.{AreWhole};
 ghost use Rattle.block_journal.specs.Reads.{LacksBody};
 ghost use Rattle.block_journal.specs.Redo.{is_open};
@@ -37,10 +35,10 @@ pub(crate) fn redo_changes<T: Site>(
     ensures exact { OnOk result (IsExact (T.image site.new) (T.left_at site.new (T.moment site.new))) }
     ensures told { Became (RedoMakes first count) (T.image site.old) (T.image site.new) }
     ensures said { T.said site.new ≡ T.said site.old }
-    ensures stops { LeavesOnly (T.moment site.old) (T.moment site.new) (T.left_at site.old) (T.left_at site.new) (MadeFrom (RedoMakes first count) (T.left_at site.old (T.moment site.old)) (T.image site.old)) }
+    ensures stops { StopsLeave T.moment T.left_at (λ now. MadeFrom (RedoMakes first count) now (T.image site.old)) site.old site.new }
     ensures cause { HasCause (T.disk_faults site.old) (T.disk_faults site.new) result }
     ensures say_faults { T.say_faults site.new ≡ T.say_faults site.old }
-    ensures room { HasRoom (T.room site.old) (T.room site.new) (T.disk_faults site.old) (T.disk_faults site.new) (λ room. last_byte first count ≤ room.0) }
+    ensures room { FitsBelow T.room T.disk_faults (last_byte first count) site.old site.new }
 {
     write_blocks(site, first, count, changes)?;
     write_synced(site, GATE, &[0])
@@ -60,10 +58,10 @@ fn redo<T: Site>(alloc: Global, site: &mut T, first: u64, count: u32) -> Result<
     ensures memory { IsErrOf result LoadFault.Memory → T.image site.new ≡ T.image site.old }
     ensures told { Became (RedoMakes first count) (T.image site.old) (T.image site.new) }
     ensures said { T.said site.new ≡ T.said site.old }
-    ensures stops { LeavesOnly (T.moment site.old) (T.moment site.new) (T.left_at site.old) (T.left_at site.new) (MadeFrom (RedoMakes first count) (T.left_at site.old (T.moment site.old)) (T.image site.old)) }
+    ensures stops { StopsLeave T.moment T.left_at (λ now. MadeFrom (RedoMakes first count) now (T.image site.old)) site.old site.new }
     ensures cause { HasCauseFor (T.disk_faults site.old) (T.disk_faults site.new) result LoadFault.DiskFault }
     ensures say_faults { T.say_faults site.new ≡ T.say_faults site.old }
-    ensures room { HasRoom (T.room site.old) (T.room site.new) (T.disk_faults site.old) (T.disk_faults site.new) (λ room. last_byte first count ≤ room.0) }
+    ensures room { FitsBelow T.room T.disk_faults (last_byte first count) site.old site.new }
 {
     let changes = read_body(alloc, site, first, count)?;
     redo_changes(site, first, count, &changes)?;
@@ -89,10 +87,10 @@ pub(crate) fn settle<T: Site>(
     ensures memory { IsErrOf result LoadFault.Memory → T.image site.new ≡ T.image site.old }
     ensures told { Became (RedoMakes first count) (T.image site.old) (T.image site.new) }
     ensures said { T.said site.new ≡ T.said site.old }
-    ensures stops { LeavesOnly (T.moment site.old) (T.moment site.new) (T.left_at site.old) (T.left_at site.new) (MadeFrom (RedoMakes first count) (T.left_at site.old (T.moment site.old)) (T.image site.old)) }
+    ensures stops { StopsLeave T.moment T.left_at (λ now. MadeFrom (RedoMakes first count) now (T.image site.old)) site.old site.new }
     ensures cause { HasCauseFor (T.disk_faults site.old) (T.disk_faults site.new) result LoadFault.DiskFault }
     ensures say_faults { T.say_faults site.new ≡ T.say_faults site.old }
-    ensures room { HasRoom (T.room site.old) (T.room site.new) (T.disk_faults site.old) (T.disk_faults site.new) (λ room. last_byte first count ≤ room.0) }
+    ensures room { FitsBelow T.room T.disk_faults (last_byte first count) site.old site.new }
 {
     if read_gate(site)? {
         redo(alloc, site, first, count)

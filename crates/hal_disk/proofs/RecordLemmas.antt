@@ -1,5 +1,5 @@
 -- A record that has one call more.
-use Rattle.std.proofs.Common.{◌≡◌, inl, inr, ⊎_elim, ℕ, suc, ◌+◌, ◌-◌, ◌*◌, ◌^◌, ◌<◌, ◌≤◌, Bool, true, false, cond, All, IsTrue, reverse, Result, Ok, Err, IfOk, OnOk, OnErr, is_ok, Option, Vec, List, [], ◌∷◌, ◌++◌, length, take, drop, replicate, get_or, refl, sym, ◌∙◌, ap, subst, arith, take-append-drop}
+use Rattle.std.proofs.Common.{◌≡◌, ◌↔◌, inl, inr, ⊎_elim, ℕ, suc, ◌+◌, ◌-◌, ◌*◌, ◌^◌, ◌<◌, ◌≤◌, Bool, true, false, not, cond, All, Contains, IsTrue, reverse, Result, Ok, Err, IfOk, Option, Vec, List, [], ◌∷◌, ◌++◌, length, take, drop, replicate, get_or, refl, sym, ◌∙◌, ap, subst, arith, take-append-drop}
 use Rattle.std.proofs.lemmas.List.{reverse-append, length-reverse, length-take-le, length-replicate}
 use Rattle.std.proofs.lemmas.List.Elements.{All-nil}
 use Rattle.std.proofs.lemmas.Bool.{le-leb}
@@ -131,17 +131,19 @@ pub sync_durable : (first : List ℕ) (older newer : List Call) (image : List �
 sync_durable first older newer image is seen bytes text left =
     sync_done first older (2 * length newer) bytes text (ap (λ (l : List Call). 2 * length l) is) (subst (λ (l : List Call). LeftAt first l (2 * length newer) bytes text) is left) ∙ sym seen
 
-pub on_ok : {T E P : Type 0} (result : Result T E) (done : Bool) → is_ok result ≡ done → (done ≡ true → P) → OnOk result P
-on_ok (Ok x) done is so = so (sym is)
-on_ok (Err e) done is so = tt
+-- the number of the newest call is one more than how many were made before it
+pub named_next : (named : List ℕ) (is : Bool) (call : Call) (older newer : List Call) → newer ≡ call ∷ older → (IsTrue is ↔ Contains named (length older + 1)) → (not is ≡ false) ↔ Contains named (length newer)
+named_next named is call older newer more sought = (λ fails. subst (λ (n : ℕ). Contains named n) number (sought.0 (failing is fails)), λ has. unnamed is (sought.1 (subst (λ (n : ℕ). Contains named n) (sym number) has)))
+  where
+    number : length older + 1 ≡ length newer
+    number = omega (arith, ap length more)
 
-pub on_err : {T E P : Type 0} (result : Result T E) (done : Bool) → is_ok result ≡ done → (done ≡ false → P) → OnErr result P
-on_err (Ok x) done is so = tt
-on_err (Err e) done is so = so (sym is)
+    failing : (is : Bool) → not is ≡ false → is ≡ true
+    failing true fails = refl
+    failing false fails = sym fails
 
-pub any_err : {T E P : Type 0} (result : Result T E) → P → OnErr result P
-any_err (Ok x) p = tt
-any_err (Err e) p = p
+    unnamed : (is : Bool) → is ≡ true → not is ≡ false
+    unnamed is so = ap not so
 
 pub durable_if : (first : List ℕ) (older newer : List Call) (done : Bool) (image : List ℕ) → newer ≡ Sync done ∷ older → image ≡ seen_by first older → done ≡ true → (bytes text : List ℕ) → LeftAt first newer (2 * length newer) bytes text → bytes ≡ image
 durable_if first older newer done image is seen was = sync_durable first older newer image (is ∙ ap (λ (d : Bool). Sync d ∷ older) was) seen

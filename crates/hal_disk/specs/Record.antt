@@ -1,6 +1,6 @@
 -- What a record of calls says of a site: its image as it reads, its said bytes, and what a stop at each moment
 -- might have left. Lists of calls have the newest one first.
-use Rattle.std.specs.Prelude.{◌≡◌, ◌⊎◌, ℕ, ◌+◌, ◌-◌, ◌*◌, ◌^◌, Bool, true, false, if◌then◌else◌, List, [], ◌∷◌, ◌++◌, length, take, replicate, nat_le}
+use Rattle.std.specs.Prelude.{◌≡◌, ◌⊎◌, ℕ, ◌+◌, ◌-◌, ◌*◌, ◌^◌, ◌/◌, Bool, true, false, if◌then◌else◌, List, [], ◌∷◌, ◌++◌, length, take, replicate, nat_le}
 use Rattle.hal_base.specs.Disk.{written, Torn}
 use Rattle.hal_disk.specs.declared.call.Call.{Call}
 use Rattle.hal_disk.specs.declared.call.Call.TheVariants.{Read, Write, Sync, Say}
@@ -21,6 +21,10 @@ said_by (Write at content done ∷ older) = said_by older
 said_by (Sync done ∷ older) = said_by older
 said_by (Say text said ∷ older) = said_by older ++ take said text
 
+-- how many bytes of a text a say says: all of them where it is done, else half
+abbrev pub said_size : Bool → List ℕ → ℕ
+said_size done text = if done then length text else length text / 2
+
 -- the images that a stop after these calls may leave
 unfoldable pub MayLeave : List ℕ → List Call → List ℕ → Type 0
 MayLeave first [] image = image ≡ first
@@ -38,6 +42,17 @@ stopped_by first kept torn (Write at content done ∷ older) = written at (if ke
 stopped_by first kept torn (Sync true ∷ older) = seen_by first older
 stopped_by first kept torn (Sync false ∷ older) = stopped_by first kept torn older
 stopped_by first kept torn (Say text said ∷ older) = stopped_by first kept torn older
+
+-- what a replay of one call more makes of the image as it reads, of the image that is left, and of what was said
+abbrev pub SeesMore : Call → List ℕ → List ℕ → Type 0
+SeesMore call old new = (first : List ℕ) (older : List Call) → old ≡ seen_by first older → new ≡ seen_by first (call ∷ older)
+
+abbrev pub LeavesMore : Bool → ℕ → Call → List ℕ → List ℕ → List ℕ → Type 0
+LeavesMore kept torn call seen old new =
+    (first : List ℕ) (older : List Call) → seen ≡ seen_by first older → old ≡ stopped_by first kept torn older → new ≡ stopped_by first kept torn (call ∷ older)
+
+abbrev pub SaysMore : Call → List ℕ → List ℕ → Type 0
+SaysMore call old new = (older : List Call) → old ≡ said_by older → new ≡ said_by (call ∷ older)
 
 -- a write ends below 2^63, as a site asks
 unfoldable pub is_near : Call → Bool

@@ -41,11 +41,16 @@ seen_left first (Sync true ∷ older) = refl
 seen_left first (Sync false ∷ older) = seen_left first older
 seen_left first (Say text said ∷ older) = seen_left first older
 
-some_is : (x y : List ℕ) → Some x ≡ Some y → x ≡ y
-some_is x y is = cc
+-- so it may leave what reads, with what was said
+left_reads : (first : List ℕ) (calls : List Call) → LeftAt first calls (2 * length calls) (seen_by first calls) (said_by calls)
+left_reads first calls = left_now first calls (seen_by first calls) (said_by calls) (seen_left first calls) refl
 
-pub reads_last : (first : List ℕ) (calls : List Call) (image said reads words : List ℕ) → image ≡ seen_by first calls → said ≡ said_by calls → Some image ≡ Some reads → Some said ≡ Some words → LeftAt first calls (2 * length calls) reads words
-reads_last first calls image said reads words image_is said_is is_image is_said =
-    let reads_is : seen_by first calls ≡ reads = sym image_is ∙ some_is image reads is_image in
-    let words_is : said_by calls ≡ words = sym said_is ∙ some_is said words is_said in
-    subst (λ (w : List ℕ). LeftAt first calls (2 * length calls) reads w) words_is (subst (λ (r : List ℕ). LeftAt first calls (2 * length calls) r (said_by calls)) reads_is (left_now first calls (seen_by first calls) (said_by calls) (seen_left first calls) refl))
+some_is : {x y z : List ℕ} → x ≡ z → Some x ≡ Some y → z ≡ y
+some_is same is = cc
+
+pub reads_last : (first : List ℕ) (calls : List Call) {image said reads words : List ℕ} → image ≡ seen_by first calls →
+    said ≡ said_by calls → Some image ≡ Some reads → Some said ≡ Some words → LeftAt first calls (2 * length calls) reads words
+reads_last first calls {image} {said} {reads} {words} image_is said_is is_image is_said =
+    let Left : List ℕ → List ℕ → Type 0 = λ r w. LeftAt first calls (2 * length calls) r w in
+    let seen : Left reads (said_by calls) = subst (λ (r : List ℕ). Left r (said_by calls)) (some_is image_is is_image) (left_reads first calls) in
+    subst (λ (w : List ℕ). Left reads w) (some_is said_is is_said) seen

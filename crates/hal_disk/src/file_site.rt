@@ -1,5 +1,5 @@
 // A file of the system, and standard output. Nothing that they hold is told.
-ghost use Rattle.std.specs.Prelude.{◌≡◌, ◌≤◌, ◌+◌, ◌^◌, None, ◌-◌, length, IfOk};
+ghost use Rattle.std.specs.Prelude.{◌≡◌, ◌≤◌, ◌+◌, ◌^◌, None, ◌-◌, length, min, IfOk};
 
 use hal_base::{Bytes, Failed, Site};
 use std::fs::{File, OpenOptions};
@@ -21,11 +21,13 @@ pub struct FileSite<R> {
 }
 
 impl<R: Files<File = File> + Print + Drop> FileSite<R> {
-    ghost use Rattle.hal_disk.specs.FileSite.{KeepsCounts};
+    ghost use Rattle.hal_disk.specs.FileSite.{KeepsCounts, IsNewFile, IsSameFile};
     ghost use Rattle.hal_base.specs.Fault.{Rose};
 
     /// `create` makes an absent file; a file that is there is never made shorter.
-    pub fn new(rt: R, path: Bytes, create: bool) -> FileSite<R> {
+    pub fn new(rt: R, path: Bytes, create: bool) -> FileSite<R>
+        ensures { IsNewFile path create result }
+    {
         FileSite {
             rt,
             path,
@@ -94,9 +96,11 @@ impl<R: Files<File = File> + Print + Drop> FileSite<R> {
     }
 
     fn disk_fault(&mut self) -> Failed
+        ensures exact { self.new.disk_faults ≡ min (self.old.disk_faults + 1) (2 ^ 64 - 1) }
         ensures rose { Rose self.old.disk_faults self.new.disk_faults }
         ensures later { self.old.disk_faults ≤ self.new.disk_faults }
         ensures say_faults { self.new.say_faults ≡ self.old.say_faults }
+        ensures file { IsSameFile self.old self.new }
     {
         self.disk_faults = self.disk_faults.saturating_add(1);
         Failed
@@ -104,6 +108,10 @@ impl<R: Files<File = File> + Print + Drop> FileSite<R> {
 }
 
 impl<R: Files<File = File> + Print + Drop> Site for FileSite<R> {
+    ghost use Rattle.hal_base.specs.Fault.{HasCause};
+    ghost use Rattle.hal_disk.specs.Exact.{CountsFault};
+    ghost use Rattle.hal_disk.specs.FileSite.{IsSameFile};
+
     ghost image = { λ _. None };
 
     ghost said = { λ _. None };
@@ -122,28 +130,51 @@ impl<R: Files<File = File> + Print + Drop> Site for FileSite<R> {
 
     ghost reads_now = { λ s bytes text reads words left _ _. absurd left };
 
-    fn read_at(&mut self, at: u64, buf: &mut [u8]) -> Result<usize, Failed> {
+    fn read_at(&mut self, at: u64, buf: &mut [u8]) -> Result<usize, Failed>
+        requires { at + length buf.old ≤ 2 ^ 63 - 1 }
+        ensures within { IfOk result (λ n. n ≤ length buf.new) }
+        ensures cause { HasCause self.old.disk_faults self.new.disk_faults result }
+        ensures counts { CountsFault self.old.disk_faults self.new.disk_faults result }
+        ensures say_faults { self.new.say_faults ≡ self.old.say_faults }
+        ensures file { IsSameFile self.old self.new }
+    {
         match self.read_file(at, buf) {
             Ok(count) => Ok(count),
             Err(_) => Err(self.disk_fault()),
         }
     }
 
-    fn write_at(&mut self, at: u64, content: &[u8]) -> Result<(), Failed> {
+    fn write_at(&mut self, at: u64, content: &[u8]) -> Result<(), Failed>
+        requires { at + length content.now ≤ 2 ^ 63 - 1 }
+        ensures cause { HasCause self.old.disk_faults self.new.disk_faults result }
+        ensures counts { CountsFault self.old.disk_faults self.new.disk_faults result }
+        ensures say_faults { self.new.say_faults ≡ self.old.say_faults }
+        ensures file { IsSameFile self.old self.new }
+    {
         match self.write_file(at, content) {
             Ok(()) => Ok(()),
             Err(_) => Err(self.disk_fault()),
         }
     }
 
-    fn sync(&mut self) -> Result<(), Failed> {
+    fn sync(&mut self) -> Result<(), Failed>
+        ensures cause { HasCause self.old.disk_faults self.new.disk_faults result }
+        ensures counts { CountsFault self.old.disk_faults self.new.disk_faults result }
+        ensures say_faults { self.new.say_faults ≡ self.old.say_faults }
+        ensures file { IsSameFile self.old self.new }
+    {
         match self.sync_file() {
             Ok(()) => Ok(()),
             Err(_) => Err(self.disk_fault()),
         }
     }
 
-    fn say(&mut self, text: &[u8]) -> Result<(), Failed> {
+    fn say(&mut self, text: &[u8]) -> Result<(), Failed>
+        ensures cause { HasCause self.old.say_faults self.new.say_faults result }
+        ensures counts { CountsFault self.old.say_faults self.new.say_faults result }
+        ensures disk_faults { self.new.disk_faults ≡ self.old.disk_faults }
+        ensures file { IsSameFile self.old self.new }
+    {
         match self.print(text) {
             Ok(()) => Ok(()),
             Err(_) => {
@@ -154,8 +185,8 @@ impl<R: Files<File = File> + Print + Drop> Site for FileSite<R> {
     }
 }
 
-/// Reads until the buffer is full or the file ends.
-fn read_on(file: &File, at: u64, buf: &mut [u8]) -> io::Result<usize>
+/// Reads until the buffer is full or the file ends, however few bytes a read gives.
+pub(crate) fn read_on<F: FileExt>(file: &F, at: u64, buf: &mut [u8]) -> io::Result<usize>
     requires { at + length buf.old ≤ 2 ^ 63 - 1 }
     ensures { IfOk result (λ n. n ≤ length buf.new) }
 {
@@ -170,8 +201,8 @@ fn read_on(file: &File, at: u64, buf: &mut [u8]) -> io::Result<usize>
     Ok(count)
 }
 
-/// Writes all of the content.
-fn write_on(file: &File, at: u64, content: &[u8]) -> io::Result<()>
+/// Writes all of the content, however few bytes a write takes. One that takes none is an error.
+pub(crate) fn write_on<F: FileExt>(file: &F, at: u64, content: &[u8]) -> io::Result<()>
     requires { at + length content.now ≤ 2 ^ 63 - 1 }
 {
     let mut count = 0;

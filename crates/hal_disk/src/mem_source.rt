@@ -2,6 +2,7 @@
 ghost use Rattle.std.specs.Prelude.{◌≡◌, ◌<◌, ◌≤◌, ◌↔◌, length, take, Some, min, Contains, IfOk, OnErr, IsErr};
 ghost use Rattle.std.specs.Io.KnownBytes.{Consumes, IsAtEnd, Keeps};
 ghost use Rattle.hal_base.specs.Fault.{HasCause};
+ghost use Rattle.hal_disk.specs.Exact.{CountsFault};
 
 use hal_base::{Bytes, Failed, List, Source};
 
@@ -54,6 +55,7 @@ impl Source for MemSource {
         ensures piece { IfOk result (λ n. n ≤ self.old.piece) }
         ensures exactly { IsErr result ↔ Contains self.old.failing self.new.calls }
         ensures counts { HasCounted self.old self.new }
+        ensures faults { CountsFault self.old.faults self.new.faults result }
     {
         self.calls = self.calls.saturating_add(1);
         if self.failing.as_slice().contains(&self.calls) {

@@ -1,7 +1,6 @@
 // What a stop may leave, replayed from a record of calls.
-ghost use Rattle.std.specs.Prelude.{◌≡◌, ◌∷◌, ℕ, List, length, replicate, reverse, if◌then◌else◌, All, IsTrue, IfOk, OnOk};
-ghost use Rattle.hal_disk.specs.declared.call.Call.{Call};
-ghost use Rattle.hal_disk.specs.Record.{said_by, seen_by, stopped_by, is_near};
+ghost use Rattle.std.specs.Prelude.{◌≡◌, length, replicate, reverse, if◌then◌else◌, All, IsTrue, IfOk, OnOk};
+ghost use Rattle.hal_disk.specs.Record.{said_by, stopped_by, is_near, SeesMore, LeavesMore, SaysMore};
 
 use crate::Call;
 use crate::image::put;
@@ -39,8 +38,8 @@ fn replay(
     torn: u8,
 ) -> Result<(), Memory>
     requires { IsTrue (is_near call.now) }
-    ensures seen { OnOk result ((first : List ℕ) (older : List Call) → seen.old.items ≡ seen_by first older → seen.new.items ≡ seen_by first (call.now ∷ older)) }
-    ensures left { OnOk result ((first : List ℕ) (older : List Call) → seen.old.items ≡ seen_by first older → left.old.items ≡ stopped_by first kept torn older → left.new.items ≡ stopped_by first kept torn (call.now ∷ older)) }
+    ensures seen { OnOk result (SeesMore call.now seen.old.items seen.new.items) }
+    ensures left { OnOk result (LeavesMore kept torn call.now seen.old.items left.old.items left.new.items) }
 {
     match call {
         Call::Write { at, content, done } => {
@@ -85,7 +84,7 @@ pub(crate) fn replayed_said(alloc: Global, calls: &[Call]) -> Result<Bytes, Memo
 /// Says what one call more has said.
 #[tactic(auto, unfolding(crate::specs::Record::said_by))]
 fn resay(all: &mut Bytes, call: &Call) -> Result<(), Memory>
-    ensures { OnOk result ((older : List Call) → all.old ≡ said_by older → all.new ≡ said_by (call.now ∷ older)) }
+    ensures { OnOk result (SaysMore call.now all.old all.new) }
 {
     if let Call::Say { text, said } = call {
         let count = (*said).min(text.len());

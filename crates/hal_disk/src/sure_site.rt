@@ -1,5 +1,5 @@
 // A site in memory that tells its room.
-ghost use Rattle.std.specs.Prelude.{◌≡◌, ◌≤◌, ◌+◌, ◌-◌, ◌^◌, ℕ, List, None, Some, [], length, OnOk, OnErr, IsSomeAnd};
+ghost use Rattle.std.specs.Prelude.{◌≡◌, ◌≤◌, ◌+◌, ◌-◌, ◌^◌, ℕ, List, None, Some, [], length, take, drop, IfOk, OnOk, OnErr, IsOk};
 ghost use Rattle.std.specs.Option.{option_map};
 ghost use Rattle.std.specs.Io.KnownBytes.{Appends};
 ghost use Rattle.std.specs.Vec.{vec_capacity};
@@ -88,7 +88,7 @@ fn make_room(bytes: &mut Vec<u8>, size: u64) -> Result<(), Memory>
 }
 
 impl Site for SureSite {
-    ghost use Rattle.hal_disk.specs.SureSite.{sure_image, sure_said, sure_room};
+    ghost use Rattle.hal_disk.specs.SureSite.{sure_image, sure_said, sure_room, FitsSaid, IsAsBefore};
 
     ghost image = { λ s. Some s.image.items };
 
@@ -108,7 +108,13 @@ impl Site for SureSite {
 
     ghost reads_now = { λ s bytes text reads words left _ _. absurd left };
 
-    fn read_at(&mut self, at: u64, buf: &mut [u8]) -> Result<usize, Failed> {
+    fn read_at(&mut self, at: u64, buf: &mut [u8]) -> Result<usize, Failed>
+        requires { at + length buf.old ≤ 2 ^ 63 - 1 }
+        ensures within { IfOk result (λ n. n ≤ length buf.new) }
+        ensures bytes { IfOk result (λ n. take n buf.new ≡ take (length buf.new) (drop at (sure_image self.old))) }
+        ensures sure { IsOk result }
+        ensures unchanged { IsAsBefore self.old self.new }
+    {
         Ok(copied_from(&self.image, at, buf))
     }
 
@@ -123,6 +129,7 @@ impl Site for SureSite {
         ensures exactly { FailsPast (sure_room self.old).0 (at + length content.now) self.old.disk_faults self.new.disk_faults result }
         ensures cause { HasCause self.old.disk_faults self.new.disk_faults result }
         ensures say_faults { self.new.say_faults ≡ self.old.say_faults }
+        ensures same_room { sure_room self.new ≡ sure_room self.old }
         ensures room { HasRoom (Some (sure_room self.old)) (Some (sure_room self.new)) self.old.disk_faults self.new.disk_faults (λ room. at + length content.now ≤ room.0) }
     {
         if at + content.len() as u64 <= self.image_room
@@ -134,7 +141,10 @@ impl Site for SureSite {
         Err(Failed)
     }
 
-    fn sync(&mut self) -> Result<(), Failed> {
+    fn sync(&mut self) -> Result<(), Failed>
+        ensures sure { IsOk result }
+        ensures unchanged { IsAsBefore self.old self.new }
+    {
         Ok(())
     }
 
@@ -149,7 +159,8 @@ impl Site for SureSite {
         ensures exactly { FailsPast (sure_room self.old).1 (length (sure_said self.old) + length text.now) self.old.say_faults self.new.say_faults result }
         ensures cause { HasCause self.old.say_faults self.new.say_faults result }
         ensures disk_faults { self.new.disk_faults ≡ self.old.disk_faults }
-        ensures room { HasRoom (Some (sure_room self.old)) (Some (sure_room self.new)) self.old.say_faults self.new.say_faults (λ room. IsSomeAnd (Some (sure_said self.old)) (λ before. length before + length text.now ≤ room.1)) }
+        ensures same_room { sure_room self.new ≡ sure_room self.old }
+        ensures room { HasRoom (Some (sure_room self.old)) (Some (sure_room self.new)) self.old.say_faults self.new.say_faults (FitsSaid (sure_said self.old) text.now) }
     {
         if (self.said.len() + text.len()) as u64 <= self.said_room
             && self.said.extend_from_slice(text).is_ok()

@@ -1,6 +1,10 @@
+use crate::file_site::{read_on, write_on};
+use crate::input_source::piece_of;
 use crate::{FileSite, MemSite, MemSource, SureSite, SureSource};
 use hal_base::{Bytes, List, Site, Source};
-use std::fs;
+use std::fs::{self, File, OpenOptions};
+use std::io::{self, ErrorKind, Read};
+use std::os::unix::fs::FileExt;
 use std::test::Fail;
 
 #[test]
@@ -105,5 +109,76 @@ fn a_sync_and_a_write_are_asked_of_the_system(rt: HostRuntime) -> Result<(), Fai
     let full = Bytes::from_slice(alloc, b"/dev/full")?;
     let mut full = FileSite::new(rt.clone()?, full, false);
     assert!(rt; full.write_at(0, b"x").is_err());
+    Ok(())
+}
+
+// A file that gives and takes at most three bytes a call.
+#[derive(Drop)]
+struct SlowFile(File);
+
+impl FileExt for SlowFile {
+    fn read_at(&self, buf: &mut [u8], offset: u64) -> io::Result<usize> {
+        let most = buf.len().min(3);
+        self.0.read_at(&mut buf[..most], offset)
+    }
+
+    fn write_at(&self, buf: &[u8], offset: u64) -> io::Result<usize> {
+        self.0.write_at(&buf[..buf.len().min(3)], offset)
+    }
+}
+
+// A file that gives and takes no byte.
+#[derive(Drop)]
+struct NoFile;
+
+impl FileExt for NoFile {
+    fn read_at(&self, _: &mut [u8], _: u64) -> io::Result<usize> {
+        Ok(0)
+    }
+
+    fn write_at(&self, _: &[u8], _: u64) -> io::Result<usize> {
+        Ok(0)
+    }
+}
+
+#[test]
+fn a_read_and_a_write_go_on_after_a_part(rt: HostRuntime) -> Result<(), Fail> {
+    let path = "haldb-parts.vol";
+    let file = OpenOptions::new()
+        .read(true)
+        .write(true)
+        .create(true)
+        .open(&rt, path)?;
+    let file = SlowFile(file);
+    write_on(&file, 5, b"abcdefgh")?;
+    let mut read = [1u8; 16];
+    assert_eq!(rt; read_on(&file, 0, &mut read)?, 13);
+    assert_eq!(rt; &read[..13], b"\0\0\0\0\0abcdefgh".as_slice());
+    fs::remove_file(&rt, path)?;
+    assert!(rt; write_on(&NoFile, 0, b"x").is_err());
+    assert_eq!(rt; read_on(&NoFile, 0, &mut read)?, 0);
+    Ok(())
+}
+
+// An input that can't be read.
+#[derive(Drop)]
+struct NoInput;
+
+impl Read for NoInput {
+    fn read(&mut self, _: &mut [u8]) -> io::Result<usize> {
+        Err(ErrorKind::Other.into())
+    }
+}
+
+#[test]
+fn a_failed_read_is_not_the_end(rt: HostRuntime) -> Result<(), Fail> {
+    let mut buf = [0u8; 4];
+    let mut faults = 0;
+    assert!(rt; piece_of(&mut NoInput, &mut buf, &mut faults).is_err());
+    assert_eq!(rt; faults, 1);
+    let mut text = b"ab".as_slice();
+    assert_eq!(rt; piece_of(&mut text, &mut buf, &mut faults), Ok(2));
+    assert_eq!(rt; piece_of(&mut text, &mut buf, &mut faults), Ok(0));
+    assert_eq!(rt; faults, 1);
     Ok(())
 }

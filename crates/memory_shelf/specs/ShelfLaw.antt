@@ -47,5 +47,6 @@ pub pages_fit : (set : SetId) (owners : List SetId) (held : List (List ℕ)) →
     → (length (pages_of set owners held) ≡ length (places_of set 0 owners)) × All (λ page. length page ≡ 4096) (pages_of set owners held)
 pages_fit set owners held many whole = (as_many set 0 owners held many, pages_whole set owners held whole)
 
-pub few_in_all : (set : SetId) (owners : List SetId) (count : ℕ) → length owners ≤ count → count ≤ 65536 → length (places_of set 0 owners) + length (range_with_len (length owners) (count - length owners)) ≤ 65536
+pub few_in_all : (set : SetId) (owners : List SetId) (count : ℕ) → length owners ≤ count → count ≤ 65536
+    → length (places_of set 0 owners) + length (range_with_len (length owners) (count - length owners)) ≤ 65536
 few_in_all set owners count within near = omega (arith, few_places set 0 owners, length-range_with_len (length owners) (count - length owners), within, near)

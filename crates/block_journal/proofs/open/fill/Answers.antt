@@ -1,6 +1,6 @@
 use Rattle.std.proofs.Common.{◌≡◌, ◌∙◌, ◌-◌, [], ◌∷◌, length, ap, arith, rules, option_map}
 use Rattle.hal_base.specs.Disk.{written}
-use Rattle.block_journal.proofs.Calls.{if_ok}
+use Rattle.block_journal.proofs.Calls.{if_ok, exact_stays}
 use Rattle.block_journal.proofs.Made.{made_waits, made_later, became_later}
 use Rattle.block_journal.proofs.OpeningSteps.{redo_start, fill_stops, fill_told}
 use Rattle.block_journal.proofs.Reading.{ready_filled, short_from}
@@ -23,7 +23,7 @@ returns-clause-stops g c =
     let one : length c.read_at.new.buf ≡ 1 = search rules in
     made_later (redo_start c.args.first c.args.count c.requires.exact) c.read_at.ensures.image c.read_at.ensures.stops
     (fill_stops c.args.first c.args.count (c.place_of-end.result - 1) 1 (g.T.Site.image c.read_at.new.self) (omega (arith, c.place_of-end.ensures, c.requires.behind))
-    (λ y told. short_from (c.place_of-end.result - 1) c.in_ok-read_at.field-0 c.read_at.new.buf (g.T.Site.image c.read_at.new.self) y told (rw c.read_at.ensures.image c.in_ok-read_at.ensures.bytes) one c.in_ok-read_at.ensures.within c.if-branch-eq1.false) c.write_synced.ensures.stops)
+    (λ y told. short_from (c.place_of-end.result - 1) c.in_ok-read_at.field-0 c.read_at.new.buf (g.T.Site.image c.read_at.new.self) y told (rw c.read_at.ensures.image c.in_ok-read_at.ensures.bytes) one c.in_ok-read_at.ensures.within c.if-branch-eq1.false) (exact_stays c.read_at.ensures.image c.requires.exact c.read_at.ensures.stops) c.write_synced.ensures.stops)
 
 pub returns-clause-told : goal.returns-clause-told
 returns-clause-told g c =

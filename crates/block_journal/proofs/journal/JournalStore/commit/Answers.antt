@@ -1,37 +1,20 @@
-use Rattle.std.proofs.Common.{◌≡◌, ◌∙◌, ℕ, List, length, true, ◌==◌, refl, sym, ap, subst, arith}
+use Rattle.std.proofs.Common.{◌≡◌, ◌∙◌, ℕ, List, length, ◌==◌, refl, sym, ap, subst, arith}
 use Rattle.std.specs.Prelude.{All}
-use Rattle.std.proofs.lemmas.Bool.{eqb-true, true≢false}
 use Rattle.std.proofs.lemmas.List.{nil_from_length}
-use Rattle.hal_base.proofs.StoreLemmas.{say_room_none}
-use Rattle.hal_base.proofs.StopLemmas.{not_yet}
 use Rattle.block_journal.specs.Change.{Change}
 use Rattle.block_journal.specs.Commit.{last_byte}
 use Rattle.block_journal.specs.Placing.{AreWhole}
 use Rattle.block_journal.specs.Redo.{put_all}
-use Rattle.block_journal.specs.Stands.{told_where, say_room}
+use Rattle.block_journal.specs.Stands.{told_where}
 use Rattle.block_journal.specs.JournalLaw.{are_whole, length-put_all, put_all-whole, none_list, standing_is}
-use Rattle.block_journal.proofs.Standing.{commit_stops, commit_standing, same_standing, commit_stands-of, told_same, say_room-from, few_changes, none_rise}
+use Rattle.block_journal.proofs.Standing.{commits_nothing, is_dirty, commit_stops, commit_standing, commit_stands-of, told_same, say_room-from, few_changes, none_rise}
 use Rattle.block_journal.proofs.journal.JournalStore.commit.Goals as goal
 
 pub returns-then-is_empty-clause-commits : goal.returns-then-is_empty-clause-commits
 returns-then-is_empty-clause-commits g c =
     let short : length c.args.self.now.staged.entries ≡ 0 = c.is_empty.ensures.0 c.if-is_empty.true in
     let same = none_list (g.T.Site.image c.args.self.now.site) c.args.self.now.staged.entries c.args.self.now.kept.items (nil_from_length c.args.self.now.staged.entries short) in
-    record {
-      done = sym same;
-      kept = tt;
-      cleaned = ap (λ (n : ℕ). n == 0) short;
-      list = refl;
-      number = refl;
-      said = refl;
-      stops = not_yet (g.T.Site.moment c.args.self.now.site) _ _;
-      standing = same_standing (told_where (g.T.Site.image c.args.self.now.site) (put_all c.args.self.now.staged.entries c.args.self.now.kept.items)) (told_where (g.T.Site.image c.args.self.now.site) c.args.self.now.kept.items) _ (standing_is c.args.self.now.first c.args.self.now.count c.args.self.now.kept.items (g.T.Site.image c.args.self.now.site) (g.T.Site.left_at c.args.self.now.site (g.T.Site.moment c.args.self.now.site)) (c.args.self.now.stands c.requires));
-      memory = λ is. record { moment = refl; stops = not_yet (g.T.Site.moment c.args.self.now.site) _ _; disk_faults = refl };
-      nothing = λ clean. (tt, record { moment = refl; stops = not_yet (g.T.Site.moment c.args.self.now.site) _ _; disk_faults = refl });
-      say_faults = refl;
-      room = say_room_none (say_room (last_byte c.args.self.now.first c.args.self.now.count) (g.T.Site.room c.args.self.now.site)) (g.T.Site.disk_faults c.args.self.now.site) _;
-      fetches = refl;
-    }
+    commits_nothing _ _ (sym same) (ap (λ (n : ℕ). n == 0) short) (standing_is c.args.self.now.first c.args.self.now.count c.args.self.now.kept.items (g.T.Site.image c.args.self.now.site) (g.T.Site.left_at c.args.self.now.site (g.T.Site.moment c.args.self.now.site)) (c.args.self.now.stands c.requires)) (λ clean. tt)
 
 pub make_body-requires : goal.make_body-requires
 make_body-requires g c = omega (arith, few_changes c.args.self.now.count c.args.self.now.staged.entries c.args.self.now.rise)
@@ -41,28 +24,10 @@ make_changes-requires g c = subst (λ (n : ℕ). AreWhole n c.args.self.now.stag
 
 pub returns-in_default-clause-commits : goal.returns-in_default-clause-commits
 returns-in_default-clause-commits g c =
-    let dirty : (length c.args.self.now.staged.entries == 0) ≡ true → ⊥ = λ clean.
-    true≢false (sym (c.is_empty.ensures.1 (eqb-true (length c.args.self.now.staged.entries) 0 clean)) ∙ c.if-is_empty.false) in
-    record {
-      done = tt;
-      kept = refl;
-      cleaned = tt;
-      list = refl;
-      number = refl;
-      said = refl;
-      stops = not_yet (g.T.Site.moment c.args.self.now.site) _ _;
-      standing = same_standing (told_where (g.T.Site.image c.args.self.now.site) (put_all c.args.self.now.staged.entries c.args.self.now.kept.items)) (told_where (g.T.Site.image c.args.self.now.site) c.args.self.now.kept.items) _ (standing_is c.args.self.now.first c.args.self.now.count c.args.self.now.kept.items (g.T.Site.image c.args.self.now.site) (g.T.Site.left_at c.args.self.now.site (g.T.Site.moment c.args.self.now.site)) (c.args.self.now.stands c.requires));
-      memory = λ is. record { moment = refl; stops = not_yet (g.T.Site.moment c.args.self.now.site) _ _; disk_faults = refl };
-      nothing = λ clean. absurd (dirty clean);
-      say_faults = refl;
-      room = say_room_none (say_room (last_byte c.args.self.now.first c.args.self.now.count) (g.T.Site.room c.args.self.now.site)) (g.T.Site.disk_faults c.args.self.now.site) _;
-      fetches = refl;
-    }
+    commits_nothing _ _ tt tt (standing_is c.args.self.now.first c.args.self.now.count c.args.self.now.kept.items (g.T.Site.image c.args.self.now.site) (g.T.Site.left_at c.args.self.now.site (g.T.Site.moment c.args.self.now.site)) (c.args.self.now.stands c.requires)) (is_dirty c.is_empty.ensures c.if-is_empty.false)
 
 pub returns-then-is_err-clause-commits : goal.returns-then-is_err-clause-commits
 returns-then-is_err-clause-commits g c =
-    let dirty : (length c.args.self.now.staged.entries == 0) ≡ true → ⊥ = λ clean.
-    true≢false (sym (c.is_empty.ensures.1 (eqb-true (length c.args.self.now.staged.entries) 0 clean)) ∙ c.if-is_empty.false) in
     record {
       done = tt;
       kept = told_same (g.T.Site.image c.args.self.now.site) (g.T.Site.image c.commit_changes-done.new.site) c.args.self.now.kept.items c.commit_changes-done.ensures.told;
@@ -73,7 +38,7 @@ returns-then-is_err-clause-commits g c =
       stops = commit_stops c.args.self.now.first c.args.self.now.count c.args.self.now.staged.entries c.args.self.now.kept.items (g.T.Site.image c.args.self.now.site) (g.T.Site.said c.args.self.now.site) (c.args.self.now.stands c.requires) (λ x s left. g.met.T.Site.said_now c.args.self.now.site x s left) c.commit_changes-done.ensures.stops;
       standing = commit_standing c.args.self.now.first c.args.self.now.count c.args.self.now.staged.entries c.args.self.now.kept.items (g.T.Site.image c.args.self.now.site) (g.T.Site.image c.commit_changes-done.new.site) (c.args.self.now.stands c.requires) c.commit_changes-done.ensures.told;
       memory = λ is. cc;
-      nothing = λ clean. absurd (dirty clean);
+      nothing = λ clean. absurd (is_dirty c.is_empty.ensures c.if-is_empty.false clean);
       say_faults = c.commit_changes-done.ensures.say_faults;
       room = say_room-from (last_byte c.args.self.now.first c.args.self.now.count) (g.T.Site.room c.args.self.now.site) (g.T.Site.room c.commit_changes-done.new.site) (g.T.Site.disk_faults c.args.self.now.site) (g.T.Site.disk_faults c.commit_changes-done.new.site) _ c.commit_changes-done.ensures.room;
       fetches = refl;
@@ -81,8 +46,6 @@ returns-then-is_err-clause-commits g c =
 
 pub returns-clause-commits : goal.returns-clause-commits
 returns-clause-commits g c =
-    let dirty : (length c.args.self.now.staged.entries == 0) ≡ true → ⊥ = λ clean.
-    true≢false (sym (c.is_empty.ensures.1 (eqb-true (length c.args.self.now.staged.entries) 0 clean)) ∙ c.if-is_empty.false) in
     let made : c.make_changes.new.blocks.items ≡ put_all c.args.self.now.staged.entries c.args.self.now.kept.items = c.make_changes.ensures in
     let done = ap (told_where (g.T.Site.image c.commit_changes-done.new.site)) made ∙ told_same (g.T.Site.image c.args.self.now.site) (g.T.Site.image c.commit_changes-done.new.site) (put_all c.args.self.now.staged.entries c.args.self.now.kept.items) c.commit_changes-done.ensures.told in
     record {
@@ -95,7 +58,7 @@ returns-clause-commits g c =
       stops = commit_stops c.args.self.now.first c.args.self.now.count c.args.self.now.staged.entries c.args.self.now.kept.items (g.T.Site.image c.args.self.now.site) (g.T.Site.said c.args.self.now.site) (c.args.self.now.stands c.requires) (λ x s left. g.met.T.Site.said_now c.args.self.now.site x s left) c.commit_changes-done.ensures.stops;
       standing = commit_standing c.args.self.now.first c.args.self.now.count c.args.self.now.staged.entries c.args.self.now.kept.items (g.T.Site.image c.args.self.now.site) (g.T.Site.image c.commit_changes-done.new.site) (c.args.self.now.stands c.requires) c.commit_changes-done.ensures.told;
       memory = λ is. cc;
-      nothing = λ clean. absurd (dirty clean);
+      nothing = λ clean. absurd (is_dirty c.is_empty.ensures c.if-is_empty.false clean);
       say_faults = c.commit_changes-done.ensures.say_faults;
       room = say_room-from (last_byte c.args.self.now.first c.args.self.now.count) (g.T.Site.room c.args.self.now.site) (g.T.Site.room c.commit_changes-done.new.site) (g.T.Site.disk_faults c.args.self.now.site) (g.T.Site.disk_faults c.commit_changes-done.new.site) _ c.commit_changes-done.ensures.room;
       fetches = refl;

@@ -8,15 +8,8 @@ use Rattle.block_journal.specs.JournalLaw.{none_list}
 use Rattle.block_journal.proofs.Standing.{none_rise}
 use Rattle.block_journal.proofs.journal.JournalStore.forget.Goals as goal
 
-pub invariant_of-self : goal.invariant_of-self
-invariant_of-self g c = record {
-  behind = c.args.self.now.behind;
-  near = c.args.self.now.near;
-  counted = c.args.self.now.counted;
-  whole = c.args.self.now.whole;
-  rise = none_rise c.args.self.now.count c.clear.new.self.entries c.clear.ensures.empty;
-  stands = c.args.self.now.stands;
-}
+pub invariant_of-self-clause-rise : goal.invariant_of-self-clause-rise
+invariant_of-self-clause-rise g c = none_rise c.args.self.now.count c.clear.new.self.entries c.clear.ensures.empty
 
 pub returns-clause-forgets : goal.returns-clause-forgets
 returns-clause-forgets g c = record {

@@ -5,15 +5,8 @@ use Rattle.block_journal.specs.Stands.{told_where}
 use Rattle.block_journal.proofs.Standing.{say_stands, say_steady, say_stops, say_room-by}
 use Rattle.block_journal.proofs.journal.JournalStore.say.Goals as goal
 
-pub invariant_of-self : goal.invariant_of-self
-invariant_of-self g c = record {
-  behind = c.args.self.now.behind;
-  near = c.args.self.now.near;
-  counted = c.args.self.now.counted;
-  whole = c.args.self.now.whole;
-  rise = c.args.self.now.rise;
-  stands = λ live. say_stands c.args.self.now.first c.args.self.now.count c.args.self.now.kept.items (g.T.Site.image c.args.self.now.site) (g.T.Site.image c.say.new.self) c.args.text.now (g.T.Site.moment c.args.self.now.site) (g.T.Site.moment c.say.new.self) (g.T.Site.left_at c.args.self.now.site) (g.T.Site.left_at c.say.new.self) (c.args.self.now.stands c.requires) c.say.ensures.image c.say.ensures.stops;
-}
+pub invariant_of-self-clause-stands : goal.invariant_of-self-clause-stands
+invariant_of-self-clause-stands g c = λ live. say_stands c.args.self.now.first c.args.self.now.count c.args.self.now.kept.items (g.T.Site.image c.args.self.now.site) (g.T.Site.image c.say.new.self) c.args.text.now (g.T.Site.moment c.args.self.now.site) (g.T.Site.moment c.say.new.self) (g.T.Site.left_at c.args.self.now.site) (g.T.Site.left_at c.say.new.self) (c.args.self.now.stands c.requires) c.say.ensures.image c.say.ensures.stops
 
 pub returns-clause-says : goal.returns-clause-says
 returns-clause-says g c = record {
