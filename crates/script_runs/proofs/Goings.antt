@@ -10,6 +10,7 @@ use Rattle.script_runs.specs.TakerView.{TakerView, LeavesTold}
 use Rattle.script_runs.specs.Taken.{Meaning, Began, told_steps, Goes, Went, TookOne, CutOne, Lines, DidLines, CutLines}
 use Rattle.script_runs.specs.declared.taker.EngineFault.{EngineFault}
 use Rattle.script_runs.specs.declared.taker.EngineFault.TheVariants.{DiskFault, SayFault, Memory}
+use Rattle.script_runs.proofs.Rooms.{room_none, room_then}
 use Rattle.script_runs.proofs.Runs.{IsRun-append, Speaks-append, state_after-append, least_after-append, text_of-append, FirstFree-append, on_lines-append, on_lines-more, on_lines-again, on_lines-one, stop-front, stop-append, on_site-later, on_site-append, appends_some}
 
 told-append : {S : Type 0} (fault : Option EngineFault) (xs ys begun : List (Step S)) → told_steps fault (xs ++ ys) begun ≡ xs ++ told_steps fault ys begun
@@ -31,6 +32,7 @@ went_none meaning a = record {
     began = (refl, refl);
     text = Appends-nil a.said;
     stops = not_yet a.moment a.left_at (StopsAmong meaning.keeping a.state a.said []);
+    room = room_none a [];
   };
   on_site = λ start is. tt;
 }
@@ -86,6 +88,7 @@ goes_then {S} meaning fault a b c xs ys begun part first second =
       began = second.began;
       text = rw (text_whole xs ys part) (Appends-trans a.said b.said c.said (text_of xs) (text_of ys ++ part) said second.text);
       stops = let P : List (Step S) → Type 0 = λ l. LeavesOnly a.moment c.moment a.left_at c.left_at (Left l) in subst P (sym all) stops;
+      room = rw (all, text_of-append xs (ys ++ begun)) (room_then said (rw nil at first.room) second.room);
     }
   where
     before_none : (ls ms : List (Step S)) → ls ++ ms ≡ [] → ls ≡ []

@@ -59,6 +59,7 @@ cut_none meaning s n a =
             began = (refl, refl);
             text = none.goes.text;
             stops = none.goes.stops;
+            room = none.goes.room;
           };
           on_site = none.on_site;
         };

@@ -1,11 +1,11 @@
 -- What a call that runs a whole script did.
-use Rattle.std.specs.Prelude.{◌≡◌, ◌↔◌, ℕ, ◌+◌, ◌≤◌, ◌++◌, Bool, true, false, if◌then◌else◌, List, [], length, take, Option, None, Some}
+use Rattle.std.specs.Prelude.{◌≡◌, ◌↔◌, ℕ, ◌+◌, ◌≤◌, ◌++◌, Bool, true, false, List, [], length, take, Option, None, Some, IsTrue}
 use Rattle.std.specs.Io.KnownBytes.{Consumes, IsAtEnd}
 use Rattle.std.specs.Str.Lines.{lines}
 use Rattle.hal_base.specs.Fault.{Rose}
 use Rattle.script_runs.specs.Language.{Step}
 use Rattle.script_runs.specs.Lines.{ended_lines, rest_of}
-use Rattle.script_runs.specs.TakerView.{TakerView}
+use Rattle.script_runs.specs.TakerView.{TakerView, is_ready}
 use Rattle.script_runs.specs.Taken.{Meaning, Lines, DidLines}
 use Rattle.script_runs.specs.declared.taker.EngineFault.{EngineFault}
 use Rattle.script_runs.specs.declared.taker.EngineFault.TheVariants as engine
@@ -65,6 +65,11 @@ HasItsCause SayFault before after old new = Rose old.say_faults new.say_faults
 HasItsCause DiskFault before after old new = Rose old.disk_faults new.disk_faults
 HasItsCause other before after old new = Unit {0}
 
+-- after a fault of the disk the taker may be used no more; after any other ending it is ready for another script
+abbrev pub IsLeftAt : {S : Type 0} → Ending → TakerView S → Type 0
+IsLeftAt DiskFault view = view.live ≡ false
+IsLeftAt other view = IsTrue (is_ready view)
+
 -- What was taken of the source, the events of its lines, and at most one more that a fault cut short. Before it some bytes
 -- of a line were read, with its number, and so many more may be.
 pub record RanFrom {S : Type 0} (meaning : Meaning S) (line : List ℕ) (number room : ℕ) (before after : SourceView) (old new : TakerView S) (ending : Ending) : Type 0 where
@@ -85,6 +90,7 @@ pub record RanFrom {S : Type 0} (meaning : Meaning S) (line : List ℕ) (number 
   pub within : length taken ≤ room + 1
   pub past_limit : (ending ≡ TooLong) ↔ (length taken ≡ room + 1)
   pub cause : HasItsCause ending before after old new
+  pub ready : IsLeftAt ending new
 
 -- A piece was read, and the lines that ended in it are done: the line that is begun now, its number, and how many more
 -- bytes may be read.
