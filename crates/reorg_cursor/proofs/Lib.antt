@@ -1,3 +1,4 @@
+pub mod EventLemmas
 pub mod Fits
 pub mod Grouping
 pub mod Marks

@@ -1,3 +1,4 @@
+pub mod EventLaws
 pub mod Events
 pub mod Examples
 pub mod Groups

@@ -3,19 +3,24 @@
 //! - `refusal`: why a command is refused by the state of its partition;
 //! - `commands`: a reorganization begun, paused, resumed and ended;
 //! - `units`: how far the cursor has come, and how a unit moves it;
-//! - `laws`: what units and events keep; `examples`: reorganizations that there are.
+//! - `laws`, `event_laws`: what units and events keep; `examples`: reorganizations that there are.
 //!
 //! `specs/State.antt` has the states, `specs/Groups.antt` the groups in which records are copied, `specs/Events.antt` the
 //! REORG commands as events on the list, and `specs/Lines.antt` their lines in the language of a run.
 #![tactic(auto)]
 
 mod commands;
+mod event_laws;
 mod examples;
 mod laws;
 mod refusal;
 mod units;
 
 pub use commands::{end, goes_on, pause, resume, start};
+pub use event_laws::{
+    events_change_one, events_fit, needs_are_free, reorg_lines_leave_the_rest,
+    unreplied_events_fall,
+};
 pub use examples::reorganizations_are_examples;
 pub use laws::{
     cursors_are_of_the_last, cursors_rise, finish_ends, states_fit, units_reach_one_end,

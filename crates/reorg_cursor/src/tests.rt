@@ -1,4 +1,7 @@
-use crate::{Refusal, end, groups_asked, is_done, move_cursor, pause, resume, start};
+use crate::{
+    Refusal, end, groups_asked, is_done, move_cursor, pause, reorg_lines_leave_the_rest, resume,
+    start,
+};
 use call_text::Command;
 use hal_base::{Cursor, Key, PartState};
 use hal_schema::first_schema;
@@ -70,5 +73,6 @@ fn a_unit_moves_the_cursor_behind_its_last_record(rt: HostRuntime) -> Result<(),
     assert!(rt; is_done(&schema, &Cursor::Anchors(1), b"201"));
     assert_eq!(rt; groups_asked(Command::Finish), 16);
     assert_eq!(rt; groups_asked(Command::Step(1000)), 1000);
+    reorg_lines_leave_the_rest::<u8, u8>();
     Ok(())
 }
