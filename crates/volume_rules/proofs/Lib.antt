@@ -1,6 +1,8 @@
 pub mod Calls
 pub mod ExamplesBroken
 pub mod ExamplesKept
+pub mod Hanging
+pub mod Happening
 pub mod Homes
 pub mod Homing
 pub mod Leading

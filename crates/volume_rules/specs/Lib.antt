@@ -1,7 +1,9 @@
+pub mod Applied
 pub mod Delta
 pub mod EventLaws
 pub mod Events
 pub mod Examples
+pub mod Hanging
 pub mod Laws
 pub mod Rules
 pub mod Target

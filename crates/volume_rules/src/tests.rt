@@ -14,6 +14,9 @@ fn the_laws_can_be_called(_rt: HostRuntime) {
     pointers_lead_home();
     roots_stand();
     tests_tell();
+    entries_hang();
+    pointers_hang();
+    events_can_happen();
     insertions_are_lawful();
     replacements_are_lawful();
     deletions_are_lawful();
