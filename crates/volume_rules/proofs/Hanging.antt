@@ -1,29 +1,30 @@
 -- An entry's root is that of the record in which its target stands.
 use Rattle.std.proofs.Common.{◌≡◌, ℕ, suc, ◌==◌, Bool, true, false, cond, ◌&&◌, ◌||◌, not, List, [], ◌∷◌, ◌++◌, Option, None, Some, refl, sym, ap, subst, ◌∙◌}
-use Rattle.std.specs.Prelude.{filter, map, nat_lt, is_none, option_and_then, unwrap_or}
+use Rattle.std.specs.Prelude.{filter, map, nat_lt, is_none, option_and_then, unwrap_or, IsTrue}
 use Rattle.std.specs.List.{list_all, list_any, slice_get, AllByRecursion, AllZip}
 use Rattle.std.specs.Option.{option_map, option_map_or}
 use Rattle.std.specs.Ordering.{is_le}
 use Rattle.std.specs.Str.{bytes_eq}
-use Rattle.std.proofs.lemmas.Bool.{and_parts, and_from, eqb-true}
+use Rattle.std.proofs.lemmas.Bool.{false_from_ne_true, and_parts, and_from, eqb-true}
 use Rattle.std.proofs.lemmas.Slice.Eq.{bytes_eq-Decides}
 use Rattle.hal_base.specs.declared.place.Ilk.{Ilk}
 use Rattle.hal_schema.specs.declared.row.Row.{Row}
 use Rattle.hal_schema.specs.declared.schema.IndexDef.{IndexDef}
+use Rattle.hal_schema.specs.declared.schema.Schema.{Schema}
 use Rattle.hal_schema.specs.declared.schema.SegType.{SegType}
 use Rattle.hal_schema.specs.Entry.{Entry, with_entry, in_key_order, entries_by_row, entries_of}
 use Rattle.hal_schema.specs.Facts.{SchemasAreKept}
-use Rattle.hal_schema.specs.Forest.{all_pairs, names_apart, is_child_of, is_path, rows_are_named, rows_are_below_parents, types_rise, twins_rise, keys_are_placed, has_length}
+use Rattle.hal_schema.specs.Forest.{is_forest, all_pairs, names_apart, is_child_of, is_path, rows_are_named, rows_are_below_parents, types_rise, twins_rise, keys_are_placed, has_length}
 use Rattle.hal_schema.specs.Keys.{key_cmp}
 use Rattle.hal_schema.specs.Paths.{path_with, with_paths, paths_of}
-use Rattle.hal_schema.specs.Row.{same_name, is_parent, row_level, row_key}
+use Rattle.hal_schema.specs.Row.{same_name, row_named, is_new_name, is_parent, row_level, row_key}
 use Rattle.hal_schema.specs.SegType.{parent_code, is_parent_code}
 use Rattle.hal_schema.proofs.RowNames.{name_is, name_itself}
 use Rattle.forest_laws.specs.Entries.{IsEntryOf, EntriesAreOfSources}
 use Rattle.volume_rules.specs.View.{Segment, name_at}
-use Rattle.volume_rules.specs.Target.{Pointer}
-use Rattle.volume_rules.specs.Volume.{IndexRow, pointers_of, pointer_of, entry_in, forest_of}
-use Rattle.volume_rules.specs.Hanging.{record_at, root_from, root_of, is_root_of, EntriesHang, PointersHang}
+use Rattle.volume_rules.specs.Target.{Pointer, bears, is_among}
+use Rattle.volume_rules.specs.Volume.{IndexRow, Volume, KeepsEntries, pointers_of, pointer_of, entry_in, forest_of}
+use Rattle.volume_rules.specs.Hanging.{record_at, root_from, root_of, is_root_of, EntriesHang, PointersHang, GoneAreUnpointed}
 use Rattle.volume_rules.proofs.Leading.{at_each}
 use Rattle.volume_rules.proofs.Pointing.{borne_at}
 
@@ -253,15 +254,42 @@ module _ (types : List SegType) (rows : List Row) where
       all_both pointer_hangs (map (pointer_of index.target) list) (pointers_of indexes lists) (of_index index.target list (ap (list_all entry_hangs) first ∙ each 0 index refl))
       (of_indexes indexes lists (λ place i at. each (suc place) i at) more)
 
+-- each pointer's root is that of its target's record
+hangs_at : SchemasAreKept → EntriesAreOfSources → (schema : Schema) (volume : Volume) → IsTrue (is_forest schema (forest_of volume)) → KeepsEntries schema volume
+    → (p : Pointer) → is_among (pointers_of schema.indexes volume.indexes) p ≡ true → is_root_of schema.types (forest_of volume) p.eps.name p.root ≡ true
+hangs_at kept sources schema volume forest entries p among =
+    let types = schema.types in
+    let rows = forest_of volume in
+    let all = of_indexes types rows schema.indexes volume.indexes (λ place index at. entries_hang kept sources schema rows place index forest at) entries.those in
+    at_each (pointer_hangs types rows) (pointers_of schema.indexes volume.indexes) all p among
+
 pub pointers_hang : SchemasAreKept → EntriesAreOfSources → PointersHang
 pointers_hang kept sources schema volume view p home forest entries among own =
     let types = schema.types in
     let rows = forest_of volume in
-    let all = of_indexes types rows schema.indexes volume.indexes (λ place index at. entries_hang kept sources schema rows place index forest at) entries.those in
     let b = borne_at view p.eps.name p.code home own in
     let name : name_at view home ≡ Some p.eps.name = ap (option_map (λ (s : Segment). s.name)) b.stands.here ∙ ap {B = Option Ilk} Some b.name_is in
-    by (root_of types rows p.eps.name) (at_each (pointer_hangs types rows) (pointers_of schema.indexes volume.indexes) all p among) ∙ ap (λ (o : Option Ilk). unwrap_or (option_and_then (root_of types rows) o) []) (sym name)
+    by (root_of types rows p.eps.name) (hangs_at kept sources schema volume forest entries p among) ∙ ap (λ (o : Option Ilk). unwrap_or (option_and_then (root_of types rows) o) []) (sym name)
   where
     by : (o : Option (List ℕ)) → option_map_or (bytes_eq p.root) o false ≡ true → p.root ≡ unwrap_or o []
     by None h = cc
     by (Some k) h = (bytes_eq-Decides p.root k).0 h
+
+unnamed : (types : List SegType) (before : List ℕ) (rows : List Row) (name : Ilk) → is_new_name rows name ≡ true → root_from types before rows name ≡ None
+unnamed types before [] name h = refl
+unnamed types before (row ∷ rows) name h = go (same_name row.name name) h (unnamed types (record_at types before row) rows name)
+  where
+    go : (b : Bool) → is_none (cond b (Some row) (row_named rows name)) ≡ true → (is_new_name rows name ≡ true → root_from types (record_at types before row) rows name ≡ None)
+        → cond b (Some (record_at types before row)) (root_from types (record_at types before row) rows name) ≡ None
+    go true h more = cc
+    go false h more = more h
+
+pub gone_are_unpointed : SchemasAreKept → EntriesAreOfSources → GoneAreUnpointed
+gone_are_unpointed kept sources schema volume view p home forest entries among gone =
+    false_from_ne_true (bears view p.eps.name p.code home)
+    (λ own.
+    (let b = borne_at view p.eps.name p.code home own in
+    let new : is_new_name (forest_of volume) p.eps.name ≡ true = ap (is_new_name (forest_of volume)) (sym b.name_is) ∙ gone b.s b.stands.here in
+    let none : root_of schema.types (forest_of volume) p.eps.name ≡ None = unnamed schema.types [] (forest_of volume) p.eps.name new in
+    let bad : false ≡ true = sym (ap (λ (o : Option (List ℕ)). option_map_or (bytes_eq p.root) o false) none) ∙ hangs_at kept sources schema volume forest entries p among in
+    cc))

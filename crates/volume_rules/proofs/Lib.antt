@@ -10,6 +10,7 @@ pub mod Listed
 pub mod Names
 pub mod Pointing
 pub mod Reading
+pub mod Rises
 pub mod Roots
 pub mod Switch
 pub mod Tested

@@ -10,8 +10,8 @@ use Rattle.hal_schema.specs.declared.schema.Schema.{Schema}
 use Rattle.hal_schema.specs.declared.schema.SegType.{SegType}
 use Rattle.hal_schema.specs.Entry.{entries_of}
 use Rattle.hal_schema.specs.Forest.{is_forest}
-use Rattle.hal_schema.specs.Row.{same_name, row_key}
-use Rattle.volume_rules.specs.View.{Home, View, name_at}
+use Rattle.hal_schema.specs.Row.{same_name, row_key, is_new_name}
+use Rattle.volume_rules.specs.View.{Home, Segment, View, name_at}
 use Rattle.volume_rules.specs.Target.{Pointer, bears, is_among}
 use Rattle.volume_rules.specs.Volume.{Volume, KeepsEntries, pointers_of, forest_of}
 
@@ -46,3 +46,9 @@ PointersHang = (schema : Schema) (volume : Volume) (view : View) (p : Pointer) (
     → KeepsEntries schema volume
     → is_among (pointers_of schema.indexes volume.indexes) p ≡ true → bears view p.eps.name p.code home ≡ true
     → p.root ≡ record_key schema.types (forest_of volume) view home
+
+-- a segment whose name no row has any more is the target of no pointer: so after a cut none leads to what it took
+abbrev pub GoneAreUnpointed : Type 0
+GoneAreUnpointed = (schema : Schema) (volume : Volume) (view : View) (p : Pointer) (home : Home) → IsTrue (is_forest schema (forest_of volume))
+    → KeepsEntries schema volume → is_among (pointers_of schema.indexes volume.indexes) p ≡ true
+    → ((s : Segment) → view.segments home ≡ Some s → is_new_name (forest_of volume) s.name ≡ true) → bears view p.eps.name p.code home ≡ false

@@ -5,6 +5,7 @@ pub mod Events
 pub mod Examples
 pub mod Hanging
 pub mod Laws
+pub mod Rising
 pub mod Rules
 pub mod Target
 pub mod Tests

@@ -7,6 +7,7 @@
 //! - `specs/Tests.antt`: the same as tests over lists of homes and names;
 //! - `specs/Volume.antt`: the partitions together, their list, and the rows of the indexes;
 //! - `specs/Hanging.antt`: which record a segment stands in;
+//! - `specs/Rising.antt`: addresses that rise along the sequence;
 //! - `specs/Delta.antt`, `specs/Events.antt`: what an event does, and what it owes;
 //! - `specs/Examples.antt`, `specs/Applied.antt`: volumes that there are, and events on them.
 #![tactic(auto)]
@@ -15,6 +16,7 @@ mod deltas;
 mod events;
 mod examples;
 mod pointers;
+mod rising;
 mod telling;
 
 pub use deltas::{
@@ -26,7 +28,10 @@ pub use events::{
     switches_are_lawful, turns_are_lawful, units_are_lawful,
 };
 pub use examples::{events_can_happen, examples_are_broken, examples_are_kept};
-pub use pointers::{entries_hang, pointers_hang, pointers_lead_home, roots_stand};
+pub use pointers::{
+    entries_hang, gone_are_unpointed, pointers_hang, pointers_lead_home, roots_stand,
+};
+pub use rising::rising_goes_on;
 pub use telling::tests_tell;
 
 #[cfg(test)]

@@ -1,4 +1,4 @@
-ghost use Rattle.volume_rules.specs.Hanging.{EntriesHang, PointersHang};
+ghost use Rattle.volume_rules.specs.Hanging.{EntriesHang, GoneAreUnpointed, PointersHang};
 ghost use Rattle.volume_rules.specs.Laws.{PointersLeadHome, RootsStand};
 
 use forest_laws::entries_are_of_sources;
@@ -25,6 +25,14 @@ pub fn entries_hang()
 /// A pointer's root is the key of the record that stands where its target does.
 pub fn pointers_hang()
     ensures { PointersHang }
+{
+    schemas_are_kept();
+    entries_are_of_sources();
+}
+
+/// A segment whose name no row has any more is the target of no pointer.
+pub fn gone_are_unpointed()
+    ensures { GoneAreUnpointed }
 {
     schemas_are_kept();
     entries_are_of_sources();
