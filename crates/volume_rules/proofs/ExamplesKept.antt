@@ -16,7 +16,7 @@ use Rattle.volume_rules.specs.Examples.{anchored, shown, without_index, homed, P
 use Rattle.volume_rules.proofs.Tested.{tests_tell}
 
 -- a look-up finds what is listed
-cells_cover : (placed : List Placed) (home : Home) (s : Segment) → segment_at placed home ≡ Some s → list_any (same_home home) (homes_of placed) ≡ true
+pub cells_cover : (placed : List Placed) (home : Home) (s : Segment) → segment_at placed home ≡ Some s → list_any (same_home home) (homes_of placed) ≡ true
 cells_cover [] home s h = cc
 cells_cover (p ∷ placed) home s h = go (same_home home p.home) refl h (cells_cover placed home s)
   where

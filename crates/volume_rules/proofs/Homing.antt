@@ -1,6 +1,6 @@
 -- The test of two homes, as an equation.
 use Rattle.std.proofs.Common.{◌≡◌, ◌≢◌, ◌==◌, Bool, true, false, ◌||◌, List, [], ◌∷◌, refl, sym, ap, ◌∙◌}
-use Rattle.std.specs.List.{list_any}
+use Rattle.std.specs.List.{list_all, list_any}
 use Rattle.std.proofs.lemmas.Bool.{and_parts, and_from, and_left, eqb-true, eq-eqb, ne_eqb, or_left, or_right}
 use Rattle.volume_rules.specs.View.{Home, same_home}
 
@@ -34,3 +34,14 @@ none_at test [] each = refl
 none_at test (x ∷ homes) each =
     let here : test x ≡ false = each x (or_left (same_home x x) (list_any (same_home x) homes) (home_itself x)) in
     ap (λ b. b || list_any test homes) here ∙ none_at test homes (λ home among. each home (or_right (same_home home x) (list_any (same_home home) homes) among))
+
+-- what holds of each of the homes holds of one among them
+pub each_at : (test : Home → Bool) (homes : List Home) → list_all test homes ≡ true → (home : Home) → list_any (same_home home) homes ≡ true → test home ≡ true
+each_at test [] all home among = cc
+each_at test (x ∷ homes) all home among =
+    let parts = and_parts (test x) (list_all test homes) all in
+    go (same_home home x) refl among parts.0 (each_at test homes parts.1 home)
+  where
+    go : (b : Bool) → same_home home x ≡ b → (b || list_any (same_home home) homes) ≡ true → test x ≡ true → (list_any (same_home home) homes ≡ true → test home ≡ true) → test home ≡ true
+    go true e among first more = ap test (home_is home x e) ∙ first
+    go false e among first more = more among

@@ -1,6 +1,8 @@
 pub mod Calls
 pub mod ExamplesBroken
 pub mod ExamplesKept
+pub mod Hanging
+pub mod Happening
 pub mod Homes
 pub mod Homing
 pub mod Leading
@@ -8,6 +10,7 @@ pub mod Listed
 pub mod Names
 pub mod Pointing
 pub mod Reading
+pub mod Rises
 pub mod Roots
 pub mod Switch
 pub mod Tested

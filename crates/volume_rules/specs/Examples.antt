@@ -191,7 +191,8 @@ abbrev pub anchored : ℕ → ℕ → Example
 anchored first second = record {
   part = record first_part { anchors = 4 };
   state = record { part = 1; number = 1; side = 65; state = 67; cursor = Anchors 2 };
-  cells = placed (home first 16) (cell 1 (name 1 first 16) (codes "001aa")) None ∷ placed (home second 128) (cell 1 (name 1 second 128) (codes "002bb")) None ∷ [];
+  cells = placed (home first 16) (cell 1 (name 1 first 16) (codes "001aa")) None
+      ∷ placed (home second 128) (cell 1 (name 1 second 128) (codes "002bb")) None ∷ [];
   listed = [];
 }
 

@@ -1,8 +1,11 @@
+pub mod Applied
 pub mod Delta
 pub mod EventLaws
 pub mod Events
 pub mod Examples
+pub mod Hanging
 pub mod Laws
+pub mod Rising
 pub mod Rules
 pub mod Target
 pub mod Tests

@@ -3,6 +3,7 @@ use Rattle.std.specs.Prelude.{◌≡◌, ℕ, ◌+◌, ◌==◌, nat_le, Bool, t
 use Rattle.std.specs.List.{list_all, list_any, slice_get, AllByRecursion}
 use Rattle.std.specs.Option.{option_map_or}
 use Rattle.std.specs.Str.{bytes_eq}
+use Rattle.hal_base.specs.declared.place.PartState.{PartState}
 use Rattle.hal_schema.specs.declared.row.Row.{Row}
 use Rattle.hal_schema.specs.declared.schema.IndexDef.{IndexDef}
 use Rattle.hal_schema.specs.declared.schema.Schema.{Schema}
@@ -83,3 +84,9 @@ pub record KeepsVolume (schema : Schema) (volume : Volume) : Type 0 where
   pub forest : is_forest schema (forest_of volume) ≡ true
   pub entries : KeepsEntries schema volume
   pub rules : AllByRecursion (λ view. KeepsRules schema.types (is_target_of schema) view (pointers_into schema volume view.state.part)) volume.parts
+
+-- such a volume holds a list and the states of its partitions
+pub record Holds (schema : Schema) (volume : Volume) (rows : List Row) (states : List PartState) : Type 0 where
+  pub sound : KeepsVolume schema volume
+  pub list : forest_of volume ≡ rows
+  pub parts : map (λ view. view.state) volume.parts ≡ states

@@ -1,4 +1,8 @@
+ghost use Rattle.volume_rules.specs.Applied.{CanHappen};
 ghost use Rattle.volume_rules.specs.Examples.{AreBroken, AreKept};
+
+use forest_laws::entries_are_of_sources;
+use hal_schema::schemas_are_kept;
 
 /// An idle volume of three levels, and one with a reorganization under way, keep all rules.
 pub fn examples_are_kept()
@@ -9,3 +13,12 @@ pub fn examples_are_kept()
 pub fn examples_are_broken()
     ensures { AreBroken }
 {}
+
+/// A reorganization begins and copies a record, a get heals, and a segment comes, changes and goes: the conditions
+/// of the laws are met.
+pub fn events_can_happen()
+    ensures { CanHappen }
+{
+    schemas_are_kept();
+    entries_are_of_sources();
+}

@@ -4,13 +4,19 @@
 //! - `specs/View.antt`: a partition as a map from home to segment, with its indirect list, its state and its rows;
 //! - `specs/Target.antt`: where a pointer to a segment leads;
 //! - `specs/Rules.antt`: the rules 6, 8, 9 and 10 of a partition;
-//! - `specs/Delta.antt`: what an event does, and what it owes.
+//! - `specs/Tests.antt`: the same as tests over lists of homes and names;
+//! - `specs/Volume.antt`: the partitions together, their list, and the rows of the indexes;
+//! - `specs/Hanging.antt`: which record a segment stands in;
+//! - `specs/Rising.antt`: addresses that rise along the sequence;
+//! - `specs/Delta.antt`, `specs/Events.antt`: what an event does, and what it owes;
+//! - `specs/Examples.antt`, `specs/Applied.antt`: volumes that there are, and events on them.
 #![tactic(auto)]
 
 mod deltas;
 mod events;
 mod examples;
 mod pointers;
+mod rising;
 mod telling;
 
 pub use deltas::{
@@ -21,8 +27,11 @@ pub use events::{
     deletions_are_lawful, insertions_are_lawful, reorganizations_turn, replacements_are_lawful,
     switches_are_lawful, turns_are_lawful, units_are_lawful,
 };
-pub use examples::{examples_are_broken, examples_are_kept};
-pub use pointers::{pointers_lead_home, roots_stand};
+pub use examples::{events_can_happen, examples_are_broken, examples_are_kept};
+pub use pointers::{
+    entries_hang, gone_are_unpointed, pointers_hang, pointers_lead_home, roots_stand,
+};
+pub use rising::rising_goes_on;
 pub use telling::tests_tell;
 
 #[cfg(test)]

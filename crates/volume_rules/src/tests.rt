@@ -14,6 +14,11 @@ fn the_laws_can_be_called(_rt: HostRuntime) {
     pointers_lead_home();
     roots_stand();
     tests_tell();
+    rising_goes_on();
+    entries_hang();
+    pointers_hang();
+    gone_are_unpointed();
+    events_can_happen();
     insertions_are_lawful();
     replacements_are_lawful();
     deletions_are_lawful();
