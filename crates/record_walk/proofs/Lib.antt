@@ -7,3 +7,4 @@ pub mod Levels
 pub mod Splitting
 pub mod OnLists
 pub mod ByName
+pub mod RootRows

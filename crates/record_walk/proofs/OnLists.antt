@@ -29,7 +29,7 @@ deepens kept schema above code e = ((kept schema).below above code e).level
 abbrev pub is_at : ℕ → Placed → Bool
 is_at home p = p.home == home
 
-count : ℕ → List Placed → ℕ
+unfoldable pub count : ℕ → List Placed → ℕ
 count home [] = 0
 count home (p ∷ list) = cond (p.home == home) 1 0 + count home list
 
@@ -54,7 +54,7 @@ mutual
       let d = count_append home (list_in (Some s.name) below) (list_of parent next) in
       omega (arith, a, b, c, d)
 
-  counted_in : (home : ℕ) (parent : Option Ilk) (chains : Chains) → times_in home chains ≡ count home (list_in parent chains)
+  pub counted_in : (home : ℕ) (parent : Option Ilk) (chains : Chains) → times_in home chains ≡ count home (list_in parent chains)
   counted_in home parent no_chain = refl
   counted_in home parent (chain twins more) =
       let a = counted home parent twins in

@@ -5,4 +5,5 @@ pub mod Side
 pub mod Changes
 pub mod Spans
 pub mod Named
+pub mod Roots
 pub mod Examples

@@ -18,6 +18,7 @@
 mod examples;
 mod listed;
 mod named;
+mod root_rows;
 mod walk;
 
 pub use examples::{broken_sides, example_sides};
@@ -26,6 +27,7 @@ pub use listed::{
     replaced_content_is_listed,
 };
 pub use named::{homes_are_names, new_twins_are_inserted};
+pub use root_rows::{homes_are_listed, rows_come_and_go, seen_follows};
 pub use walk::{
     changes_outside_leave, cuts_hang, met_cells_stand, new_segments_hang, replaced_content_hangs,
     trees_are_unique,
