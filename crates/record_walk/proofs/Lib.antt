@@ -8,3 +8,4 @@ pub mod Splitting
 pub mod OnLists
 pub mod ByName
 pub mod RootRows
+pub mod KeptRecords

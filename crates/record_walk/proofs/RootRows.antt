@@ -11,7 +11,7 @@ use Rattle.record_walk.specs.Tree.{Occurrence, no_segment, segment, Chains, no_c
 use Rattle.record_walk.specs.Listing.{Placed, list_of, list_in}
 use Rattle.record_walk.specs.Pointers.{Behind, Below}
 use Rattle.record_walk.specs.Side.{alone, seen}
-use Rattle.record_walk.specs.Changes.{set_in_cell, new_cell}
+use Rattle.record_walk.specs.Changes.{set_in_cell, set_content, new_cell}
 use Rattle.record_walk.specs.Spans.{AreRecords}
 use Rattle.record_walk.specs.Roots.{has_twins, SeenFollows, with_row, without_row, SameList, RowsComeAndGo, HomesAreListed}
 use Rattle.record_walk.proofs.OnLists.{count, counted_in}
@@ -60,7 +60,7 @@ seen_twin true cells now prior to cell is h e = e
 seen_twin false cells now prior to cell is h e =
     ap (option_map alone) (e ∙ ap (option_map (set_in_cell (Behind prior) to)) is) ∙ twin_alone prior to cell h ∙ ap (λ (o : Option Cell). option_map (set_in_cell (Behind prior) to) (option_map alone o)) (sym is)
 
-content_alone : (content : List ℕ) (o : Option Cell) → option_map alone (option_map {T = Cell} {U = Cell} (λ cell. record cell { content = content }) o) ≡ option_map {T = Cell} {U = Cell} (λ cell. record cell { content = content }) (option_map alone o)
+content_alone : (content : List ℕ) (o : Option Cell) → option_map alone (option_map (set_content content) o) ≡ option_map (set_content content) (option_map alone o)
 content_alone content None = refl
 content_alone content (Some cell) = by (cell.code == 1)
   where
@@ -68,8 +68,8 @@ content_alone content (Some cell) = by (cell.code == 1)
     by true = refl
     by false = refl
 
-seen_content : (phdam : Bool) (cells now : ℕ → Option Cell) (home : ℕ) (content : List ℕ) → now home ≡ option_map {T = Cell} {U = Cell} (λ cell. record cell { content = content }) (cells home)
-    → seen phdam now home ≡ option_map {T = Cell} {U = Cell} (λ cell. record cell { content = content }) (seen phdam cells home)
+seen_content : (phdam : Bool) (cells now : ℕ → Option Cell) (home : ℕ) (content : List ℕ) → now home ≡ option_map (set_content content) (cells home)
+    → seen phdam now home ≡ option_map (set_content content) (seen phdam cells home)
 seen_content true cells now home content e = e
 seen_content false cells now home content e = ap (option_map alone) e ∙ content_alone content (cells home)
 

@@ -6,4 +6,5 @@ pub mod Changes
 pub mod Spans
 pub mod Named
 pub mod Roots
+pub mod Records
 pub mod Examples

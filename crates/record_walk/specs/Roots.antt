@@ -8,7 +8,7 @@ use Rattle.record_walk.specs.Tree.{Occurrence, no_segment, Chains, no_chain, cha
 use Rattle.record_walk.specs.Listing.{Placed, list_in}
 use Rattle.record_walk.specs.Pointers.{Behind, Below}
 use Rattle.record_walk.specs.Side.{seen}
-use Rattle.record_walk.specs.Changes.{set_in_cell, new_cell}
+use Rattle.record_walk.specs.Changes.{set_in_cell, set_content, new_cell}
 use Rattle.record_walk.specs.Spans.{AreRecords}
 
 -- whether the twin of a cell of this code means something
@@ -25,8 +25,8 @@ pub record SeenFollows : Type 0 where
       → seen phdam now above ≡ option_map (set_in_cell (Below above place) to) (seen phdam cells above)
   pub twin : (phdam : Bool) (cells now : ℕ → Option Cell) (prior to : ℕ) (cell : Cell) → cells prior ≡ Some cell → has_twins phdam cell.code ≡ true
       → now prior ≡ option_map (set_in_cell (Behind prior) to) (cells prior) → seen phdam now prior ≡ option_map (set_in_cell (Behind prior) to) (seen phdam cells prior)
-  pub content : (phdam : Bool) (cells now : ℕ → Option Cell) (home : ℕ) (content : List ℕ) → now home ≡ option_map {T = Cell} {U = Cell} (λ cell. record cell { content = content }) (cells home)
-      → seen phdam now home ≡ option_map {T = Cell} {U = Cell} (λ cell. record cell { content = content }) (seen phdam cells home)
+  pub content : (phdam : Bool) (cells now : ℕ → Option Cell) (home : ℕ) (content : List ℕ) → now home ≡ option_map (set_content content) (cells home)
+      → seen phdam now home ≡ option_map (set_content content) (seen phdam cells home)
 
 -- a row of the root set that leads nowhere came at a place, and the row at a place went
 abbrev pub with_row : ℕ → Chains → Chains
