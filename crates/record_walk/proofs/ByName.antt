@@ -1,5 +1,5 @@
 -- Where names differ, the changes of the list with homes are those of the list of rows.
-use Rattle.std.proofs.Common.{◌≡◌, ℕ, zero, suc, ◌+◌, ◌==◌, nat_le, nat_lt, Bool, true, false, not, cond, List, [], ◌∷◌, ◌++◌, length, take, drop, reverse, insert, None, refl, sym, ap, subst, ◌∙◌, arith}
+use Rattle.std.proofs.Common.{◌≡◌, ℕ, zero, suc, ◌+◌, ◌==◌, nat_lt, Bool, true, false, not, cond, List, [], ◌∷◌, ◌++◌, length, take, drop, reverse, insert, None, refl, sym, ap, subst, ◌∙◌, arith}
 use Rattle.std.specs.Prelude.{take_while}
 use Rattle.std.specs.List.{list_all, prefix_len, suffix_len}
 use Rattle.std.proofs.lemmas.Bool.{and_parts, and_from, eq-eqb, ne_eqb, not-true, leb-true, le-ltb}
@@ -17,13 +17,8 @@ use Rattle.hal_schema.specs.Span.{is_deeper, span_of, without_span, replaced, wi
 use Rattle.hal_schema.proofs.RowNames.{name_is, name_itself}
 use Rattle.record_walk.specs.Listing.{Placed, placed, list_in, rows_of}
 use Rattle.record_walk.specs.Spans.{lies_below, span_at, without_span_at, replaced_at, starts_upto}
-use Rattle.record_walk.specs.Named.{IsByName, HomesAreNames, NewTwinsAreInserted}
+use Rattle.record_walk.specs.Named.{IsByName, HomesAreNames, begins_upto, StandsBetween, InsertedBetween, NewTwinsAreInserted}
 use Rattle.record_walk.proofs.OnLists.{is_at, alone_at}
-
--- the first row, if there is one, is at most so deep
-abbrev begins_upto : List SegType → ℕ → List Row → Bool
-begins_upto types n [] = true
-begins_upto types n (r ∷ rows) = nat_le (row_level types r) n
 
 abbrev is_named : Ilk → Placed → Bool
 is_named name p = same_name p.row.name name
@@ -203,6 +198,22 @@ inserted_is schema new front last below back before none deep starts =
     ap (λ (n : ℕ). insert rows n new) place ∙ ap (λ (l : List Row). insert l (length upto) new) all
     ∙ ap (λ (l : List Row). l ++ new ∷ drop (length upto) (upto ++ back)) (take_front upto back) ∙ ap (λ (l : List Row). upto ++ new ∷ l) (drop_front upto back)
     ∙ append_assoc first below (new ∷ back) ∙ append_assoc front (last ∷ []) (below ++ new ∷ back)
+
+pub inserted_between : InsertedBetween
+inserted_between = record {
+  behind = λ schema new head last tail back before b. inserted_is schema new head last tail back before b.none b.deeper b.next;
+  front = at_front;
+}
+  where
+    at_front : (schema : Schema) (new : Row) (rows : List Row) → StandsBetween schema new [] rows → inserted schema rows new ≡ new ∷ rows
+    at_front schema new rows b =
+        let types = schema.types in
+        let suffix = suffix_all (λ row. not (stands_before schema new row)) rows b.none in
+        let after : through_last (stands_before schema new) rows ≡ 0 = omega (arith, suffix) in
+        let run : prefix_len (λ r. nat_lt (row_level types new) (row_level types r)) (drop (through_last (stands_before schema new) rows) rows) ≡ 0 =
+        ap (λ (n : ℕ). prefix_len (λ r. nat_lt (row_level types new) (row_level types r)) (drop n rows)) after ∙ run_is types (row_level types new) [] rows refl b.next in
+        let place : insertion_place schema rows new ≡ 0 = omega (arith, after, run) in
+        ap (λ (n : ℕ). insert rows n new) place
 
 begins : (types : List SegType) (n : ℕ) (list : List Placed) → starts_upto types n list ≡ true → begins_upto types n (rows_of list) ≡ true
 begins types n [] h = refl

@@ -7,3 +7,5 @@ pub mod Levels
 pub mod Splitting
 pub mod OnLists
 pub mod ByName
+pub mod RootRows
+pub mod KeptRecords

@@ -29,11 +29,11 @@ deepens kept schema above code e = ((kept schema).below above code e).level
 abbrev pub is_at : ℕ → Placed → Bool
 is_at home p = p.home == home
 
-count : ℕ → List Placed → ℕ
+unfoldable pub count : ℕ → List Placed → ℕ
 count home [] = 0
 count home (p ∷ list) = cond (p.home == home) 1 0 + count home list
 
-count_append : (home : ℕ) (xs ys : List Placed) → count home (xs ++ ys) ≡ count home xs + count home ys
+pub count_append : (home : ℕ) (xs ys : List Placed) → count home (xs ++ ys) ≡ count home xs + count home ys
 unfolding count
 count_append home [] ys = omega arith
 count_append home (x ∷ xs) ys = let e = count_append home xs ys in omega (arith, e)
@@ -45,7 +45,7 @@ here_is home s = refl
 mutual
   unfolding count
 
-  counted : (home : ℕ) (parent : Option Ilk) (twins : Twins) → times home twins ≡ count home (list_of parent twins)
+  pub counted : (home : ℕ) (parent : Option Ilk) (twins : Twins) → times home twins ≡ count home (list_of parent twins)
   counted home parent no_segment = refl
   counted home parent (segment s below next) =
       let a = here_is home s in
@@ -54,7 +54,7 @@ mutual
       let d = count_append home (list_in (Some s.name) below) (list_of parent next) in
       omega (arith, a, b, c, d)
 
-  counted_in : (home : ℕ) (parent : Option Ilk) (chains : Chains) → times_in home chains ≡ count home (list_in parent chains)
+  pub counted_in : (home : ℕ) (parent : Option Ilk) (chains : Chains) → times_in home chains ≡ count home (list_in parent chains)
   counted_in home parent no_chain = refl
   counted_in home parent (chain twins more) =
       let a = counted home parent twins in
@@ -221,7 +221,7 @@ chain_of_row schema cells firsts trees r place lt change =
     let pair = chain_in schema.types cells (level_of schema.types 1) (ones trees) (ones_level schema.types trees) None change place trees (roots_typed schema.types trees r.typed) r.from.hang (omega (arith, long, lt)) in
     subst (λ (l : List ℕ). ChainIn schema.types cells (slice_index l place) change (list_in None trees) (list_in None (with_chain place change trees))) same (pair.0)
 
-chain_of : (schema : Schema) → Deepens schema.types → (cells : ℕ → Option Cell) (firsts : List ℕ) (trees : Chains) → AreRecords schema cells firsts trees → (pointer : Pointer) → IsIn pointer cells firsts trees → (change : Twins → Twins)
+pub chain_of : (schema : Schema) → Deepens schema.types → (cells : ℕ → Option Cell) (firsts : List ℕ) (trees : Chains) → AreRecords schema cells firsts trees → (pointer : Pointer) → IsIn pointer cells firsts trees → (change : Twins → Twins)
     → ChainIn schema.types cells (leads_to pointer cells firsts) change (list_in None trees) (list_in None (with_pointer pointer change trees))
 chain_of schema deepens cells firsts trees r (Behind prior) within change = chain_behind schema deepens cells firsts trees r prior (within.met prior refl) change
 chain_of schema deepens cells firsts trees r (Below above place) within change = chain_below schema deepens cells firsts trees r above place within change
@@ -235,7 +235,9 @@ new_segments_are_listed kept schema cells firsts trees pointer new kinds r withi
     record {
       parent = x.parent;
       front = x.front;
+      code = x.code;
       back = list_of x.parent x.twins ++ x.back;
+      next = starts_append schema.types (level_of schema.types x.code) (list_of x.parent x.twins) x.back (starts_of schema.types (level_of schema.types x.code) x.code x.parent x.twins x.typed (omega arith)) x.upto;
       whole = x.was;
       placed_in = x.is ∙ ap (λ l. x.front ++ placed x.parent new ∷ ((l ++ list_of x.parent x.twins) ++ x.back)) (bare_list (Some new.name) kinds);
     }

@@ -71,9 +71,13 @@ CutsHang = (cells now : ℕ → Option Cell) (firsts : List ℕ) (trees : Chains
     → IsSet pointer cut.twin cells now (without_segment pointer trees)
     → HangFrom now (set_in_rows pointer cut.twin firsts) (without_segment pointer trees)
 
+-- a cell with another content
+abbrev pub set_content : List ℕ → Cell → Cell
+set_content content cell = record cell { content = content }
+
 -- the content of one cell was replaced, and every other cell stays
 abbrev pub ReplacedContentHangs : Type 0
 ReplacedContentHangs = (cells now : ℕ → Option Cell) (firsts : List ℕ) (trees : Chains) (home : ℕ) (content : List ℕ)
     → HangFrom cells firsts trees → ((other : ℕ) → times_in other trees ≤ 1)
-    → now home ≡ option_map {T = Cell} {U = Cell} (λ cell. record cell { content = content }) (cells home) → ((other : ℕ) → other ≢ home → now other ≡ cells other)
+    → now home ≡ option_map (set_content content) (cells home) → ((other : ℕ) → other ≢ home → now other ≡ cells other)
     → HangFrom now firsts (with_content_at home content trees)

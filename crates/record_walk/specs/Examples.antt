@@ -95,9 +95,16 @@ example_cells twin = cell_at_home 16 1 twin (32 ∷ 112 ∷ []) (codes "001aa") 
 abbrev pub at : ℕ → ℕ → List ℕ → Occurrence
 at home code content = record { home = home; code = code; name = name_at home; content = content }
 
+-- a G with its next twins; a C with its G and its next twins; and so what is below the first root
+abbrev pub g_at : ℕ → List ℕ → Twins → Twins
+g_at home content next = segment (at home 3 content) no_chain next
+
+abbrev pub c_at : ℕ → List ℕ → Twins → Twins → Twins
+c_at home content first next = segment (at home 2 content) (chain first no_chain) next
+
 abbrev pub below_r1 : Chains
 below_r1 =
-    chain (segment (at 32 2 (codes "01xx")) (chain (segment (at 64 3 (codes "g2")) no_chain (segment (at 48 3 (codes "g1")) no_chain no_segment)) no_chain) (segment (at 80 2 (codes "01yy")) (chain no_segment no_chain) no_segment))
+    chain (c_at 32 (codes "01xx") (g_at 64 (codes "g2") (g_at 48 (codes "g1") no_segment)) (c_at 80 (codes "01yy") no_segment no_segment))
     (chain (segment (at 112 4 (codes "u")) no_chain no_segment) no_chain)
 
 abbrev pub r7 : Twins

@@ -5,4 +5,6 @@ pub mod Side
 pub mod Changes
 pub mod Spans
 pub mod Named
+pub mod Roots
+pub mod Records
 pub mod Examples

@@ -4,6 +4,7 @@ use Rattle.std.specs.List.{list_all, prefix_len}
 use Rattle.hal_base.specs.declared.place.Ilk.{Ilk}
 use Rattle.hal_schema.specs.declared.schema.SegType.{SegType}
 use Rattle.hal_schema.specs.declared.schema.Schema.{Schema}
+use Rattle.hal_schema.specs.SegType.{level_of}
 use Rattle.hal_schema.specs.Row.{row_level}
 use Rattle.hal_schema.specs.Span.{is_deeper, with_content}
 use Rattle.segment_blocks.specs.declared.tile.Cell.{Cell}
@@ -46,17 +47,19 @@ pub record IsIn (pointer : Pointer) (cells : ℕ → Option Cell) (firsts : List
   pub child : (above place : ℕ) (cell : Cell) → pointer ≡ Below above place → cells above ≡ Some cell → place < length cell.children
   pub row : (place : ℕ) → pointer ≡ Root place → place < length firsts
 
--- a row came in with its home, and every other row keeps its own
-pub record ComesIn (new : Occurrence) (old now : List Placed) : Type 0 where
+-- a row came in with its home, among twins of a type, and every other row keeps its own
+pub record ComesIn (types : List SegType) (new : Occurrence) (old now : List Placed) : Type 0 where
+  pub code : ℕ
   pub parent : Option Ilk
   pub front : List Placed
   pub back : List Placed
+  pub next : starts_upto types (level_of types code) back ≡ true
   pub whole : old ≡ front ++ back
   pub placed_in : now ≡ front ++ placed parent new ∷ back
 
 abbrev pub NewSegmentsAreListed : Type 0
 NewSegmentsAreListed = (schema : Schema) (cells : ℕ → Option Cell) (firsts : List ℕ) (trees : Chains) (pointer : Pointer) (new : Occurrence) (kinds : ℕ)
-    → AreRecords schema cells firsts trees → IsIn pointer cells firsts trees → ComesIn new (list_in None trees) (list_in None (with_segment pointer new kinds trees))
+    → AreRecords schema cells firsts trees → IsIn pointer cells firsts trees → ComesIn schema.types new (list_in None trees) (list_in None (with_segment pointer new kinds trees))
 
 -- behind the span of the twin at a home, with that twin's parent
 pub record ComesBehind (types : List SegType) (prior : ℕ) (new : Occurrence) (old now : List Placed) : Type 0 where

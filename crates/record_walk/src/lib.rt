@@ -18,6 +18,8 @@
 mod examples;
 mod listed;
 mod named;
+mod records;
+mod root_rows;
 mod walk;
 
 pub use examples::{broken_sides, example_sides};
@@ -25,7 +27,9 @@ pub use listed::{
     cuts_are_spans, new_segments_are_listed, new_twins_stand_behind_spans,
     replaced_content_is_listed,
 };
-pub use named::{homes_are_names, new_twins_are_inserted};
+pub use named::{homes_are_names, inserted_between, new_twins_are_inserted};
+pub use records::{cuts_keep_records, new_segments_keep_records, replaced_content_keeps_records};
+pub use root_rows::{homes_are_listed, rows_come_and_go, seen_follows};
 pub use walk::{
     changes_outside_leave, cuts_hang, met_cells_stand, new_segments_hang, replaced_content_hangs,
     trees_are_unique,

@@ -17,4 +17,11 @@ fn the_laws_can_be_called(_rt: HostRuntime) {
     replaced_content_is_listed();
     homes_are_names();
     new_twins_are_inserted();
+    seen_follows();
+    rows_come_and_go();
+    homes_are_listed();
+    inserted_between();
+    new_segments_keep_records();
+    cuts_keep_records();
+    replaced_content_keeps_records();
 }
