@@ -65,10 +65,10 @@ told_redone first count kept (Some y) outcomes stands x s left =
     ap (redone first count) (stands.exact.only y refl x s left) ∙ redone_closed first count y (stands.settled y refl).closed ∙ stands.blocks y refl
 
 -- a live journal leaves just what it tells
-pub stands_exactly : (first count now : ℕ) (kept : List (List ℕ)) (image said : Option (List ℕ)) (at : ℕ → List ℕ → List ℕ → Type 0)
+pub stands_exactly : {first count : ℕ} {kept : List (List ℕ)} {image : Option (List ℕ)} (now : ℕ) (said : Option (List ℕ)) (at : ℕ → List ℕ → List ℕ → Type 0)
     → Stands first count kept image (at now) → ((x s : List ℕ) → at now x s → IsTold said s)
     → LeavesExactly now (Read (redone first count) at) (told_where image kept) said
-stands_exactly first count now kept image said at stands said_now = record {
+stands_exactly {first} {count} {kept} {image} now said at stands said_now = record {
   kept_is = λ b s left. subst (λ (b : List (List ℕ)). IsTold (told_where image kept) b) (sym left.2) (told_redone first count kept image (at now) stands left.0 s left.1);
   said_is = λ b s left. said_now left.0 s left.1;
 }

@@ -132,7 +132,7 @@ impl<T: Site> Blocks for Journal<T> {
 
     ghost stands = { λ j live. standing_is j.first j.count j.kept.items (T.image j.site) (T.left_at j.site (T.moment j.site)) (j.stands live) };
 
-    ghost exact = { λ j live. stands_exactly j.first j.count (T.moment j.site) j.kept.items (T.image j.site) (T.said j.site) (T.left_at j.site) (j.stands live) (λ bytes text left. T.said_now j.site bytes text left) };
+    ghost exact = { λ j live. stands_exactly (T.moment j.site) (T.said j.site) (T.left_at j.site) (j.stands live) (λ bytes text left. T.said_now j.site bytes text left) };
 
     ghost steady_none = { λ j. steady_same j.first j.count (T.image j.site) (T.moment j.site) (T.left_at j.site) };
 

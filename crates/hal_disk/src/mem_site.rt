@@ -1,5 +1,6 @@
 // A site in memory that keeps its calls, and can tell what a stop at each moment might have left.
-ghost use Rattle.std.specs.Prelude.{◌≡◌, ◌≤◌, ◌<◌, ◌-◌, ◌/◌, ◌↔◌, ◌+◌, ◌*◌, ◌^◌, ◌++◌, None, Some, [], ◌∷◌, if◌then◌else◌, is_ok, ℕ, List, min, length, reverse, take, drop, All, Contains, IsTrue, IfOk, OnOk, OnErr, vec_len};
+ghost use Rattle.std.specs.Prelude.{◌≡◌, ◌≤◌, ◌<◌, ◌-◌, ◌/◌, ◌↔◌, ◌+◌, ◌*◌, ◌^◌, ◌++◌, ◌∷◌, if◌then◌else◌};
+ghost use Rattle.std.specs.Prelude.{None, Some, is_ok, ℕ, List, min, length, reverse, take, drop, All, Contains, IsTrue, IfOk, OnOk, OnErr, vec_len};
 ghost use Rattle.std.specs.Option.{option_map};
 ghost use Rattle.std.specs.Io.KnownBytes.{Appends};
 ghost use Rattle.std.specs.Vec.{vec_capacity};

@@ -5,15 +5,8 @@ use Rattle.block_journal.proofs.Standing.{none_rise}
 use Rattle.block_journal.specs.JournalLaw.{none_list}
 use Rattle.block_journal.proofs.journal.Journal.open.Goals as goal
 
-pub invariant_of-result : goal.invariant_of-result
-invariant_of-result g c = record {
-  behind = c.requires.behind;
-  near = c.requires.near;
-  counted = c.in-Ok.ensures.count;
-  whole = c.in-Ok.ensures.whole;
-  rise = none_rise c.args.count c.new.result.entries c.new.ensures.empty;
-  stands = λ live. c.in-Ok.ensures.stands;
-}
+pub invariant_of-result-clause-rise : goal.invariant_of-result-clause-rise
+invariant_of-result-clause-rise g c = none_rise c.args.count c.new.result.entries c.new.ensures.empty
 
 pub returns-in-Ok-clause-opened : goal.returns-in-Ok-clause-opened
 returns-in-Ok-clause-opened g c =
