@@ -1,14 +1,15 @@
 -- How a run of a script ends, and that what follows a piece goes on from it.
-use Rattle.std.proofs.Common.{◌≡◌, ℕ, suc, ◌+◌, ◌≤◌, Bool, true, false, List, [], ◌∷◌, ◌++◌, length, take, Option, None, Some, refl, sym, ap, ◌∙◌, subst, arith, append_assoc, append-nil, length-append}
+use Rattle.std.proofs.Common.{◌≡◌, ℕ, suc, ◌+◌, ◌≤◌, Bool, true, false, List, [], ◌∷◌, ◌++◌, length, take, Option, None, Some, IsTrue, refl, sym, ap, ◌∙◌, subst, arith, append_assoc, append-nil, length-append}
 use Rattle.std.specs.Io.KnownBytes.{Consumes, IsAtEnd}
 use Rattle.std.proofs.KnownBytes.{Consumes-trans}
 use Rattle.std.specs.Str.Lines.{lines}
 use Rattle.hal_base.specs.Fault.{Rose}
 use Rattle.script_runs.specs.Lines.{ended_parts, ended_lines, rest_of}
 use Rattle.script_runs.specs.Language.{Step}
-use Rattle.script_runs.specs.TakerView.{TakerView}
-use Rattle.script_runs.specs.Taken.{Meaning, DidLines, CutLines, Lines, IsCaused}
-use Rattle.script_runs.specs.Script.{SourceView, RanFrom, ReadOn, IsLater, HasItsCause, AllDone, due_lines, ending_of, fault_of}
+use Rattle.script_runs.specs.Faults.{IsCaused, IsLeftBy}
+use Rattle.script_runs.specs.TakerView.{TakerView, is_ready}
+use Rattle.script_runs.specs.Taken.{Meaning, DidLines, CutLines, Lines}
+use Rattle.script_runs.specs.Script.{SourceView, RanFrom, ReadOn, IsLater, HasItsCause, IsLeftAt, AllDone, due_lines, ending_of, fault_of}
 use Rattle.script_runs.specs.declared.taker.EngineFault.{EngineFault}
 use Rattle.script_runs.specs.declared.taker.EngineFault.TheVariants as engine
 use Rattle.script_runs.specs.declared.ending.Ending.{Ending}
@@ -19,10 +20,15 @@ use Rattle.script_runs.proofs.Joined.{joined}
 
 -- ---- a fault
 
-cut_cause : {S : Type 0} (fault : EngineFault) (before after : SourceView) (old new : TakerView S) → IsCaused fault old.disk_faults new.disk_faults old.say_faults new.say_faults → HasItsCause (ending_of fault) before after old new
+cut_cause : {S : Type 0} (fault : EngineFault) (before after : SourceView) (old new : TakerView S) → IsCaused fault old new → HasItsCause (ending_of fault) before after old new
 cut_cause engine.DiskFault before after old new h = h
 cut_cause engine.SayFault before after old new h = h
 cut_cause engine.Memory before after old new h = h
+
+cut_left : {S : Type 0} (fault : EngineFault) (view : TakerView S) → IsLeftBy fault view → IsLeftAt (ending_of fault) view
+cut_left engine.DiskFault view h = h
+cut_left engine.SayFault view h = h
+cut_left engine.Memory view h = h
 
 fault_back : (fault : EngineFault) → fault_of (ending_of fault) ≡ Some fault
 fault_back engine.DiskFault = refl
@@ -51,9 +57,9 @@ cut_not_long engine.Memory e = cc
 
 -- a fault in a piece
 pub ran_cut : {S : Type 0} (meaning : Meaning S) (fault : EngineFault) (begun : List ℕ) (from room : ℕ) (before after : SourceView) (old new : TakerView S) (taken : List ℕ) → Consumes before.left after.left taken → length taken ≤ room
-    → CutLines meaning None (ended_lines (begun ++ taken)) from old new fault → IsCaused fault old.disk_faults new.disk_faults old.say_faults new.say_faults
+    → CutLines meaning None (ended_lines (begun ++ taken)) from old new fault → IsCaused fault old new → IsLeftBy fault new
     → RanFrom meaning begun from room before after old new (ending_of fault)
-ran_cut {S} meaning fault begun from room before after old new taken read within cut caused = record {
+ran_cut {S} meaning fault begun from room before after old new taken read within cut caused left = record {
   taken = taken;
   read = read;
   whole = false;
@@ -68,13 +74,14 @@ ran_cut {S} meaning fault begun from room before after old new taken read within
   within = omega (arith, within);
   past_limit = (λ e. absurd (cut_not_long fault e), λ e. absurd (omega (arith, within, e)));
   cause = cut_cause fault before after old new caused;
+  ready = cut_left fault new left;
 }
 
 -- a fault in the last line, at the end of the source
 pub ran_cut_last : {S : Type 0} (meaning : Meaning S) (fault : EngineFault) (begun : List ℕ) (from room : ℕ) (before after : SourceView) (old new : TakerView S) → Consumes before.left after.left [] → IsAtEnd after.left
-    → CutLines meaning None (lines begun) from old new fault → IsCaused fault old.disk_faults new.disk_faults old.say_faults new.say_faults
+    → CutLines meaning None (lines begun) from old new fault → IsCaused fault old new → IsLeftBy fault new
     → RanFrom meaning begun from room before after old new (ending_of fault)
-ran_cut_last {S} meaning fault begun from room before after old new read end cut caused = record {
+ran_cut_last {S} meaning fault begun from room before after old new read end cut caused left = record {
   taken = [];
   read = read;
   whole = true;
@@ -89,13 +96,14 @@ ran_cut_last {S} meaning fault begun from room before after old new read end cut
   within = omega arith;
   past_limit = (λ e. absurd (cut_not_long fault e), λ e. absurd (omega (arith, e)));
   cause = cut_cause fault before after old new caused;
+  ready = cut_left fault new left;
 }
 
 -- ---- the end of the source
 
 pub ran_done : {S : Type 0} (meaning : Meaning S) (begun : List ℕ) (from room : ℕ) (before after : SourceView) (old new : TakerView S) → Consumes before.left after.left [] → IsAtEnd after.left
-    → DidLines meaning None (lines begun) from old new → RanFrom meaning begun from room before after old new Done
-ran_done meaning begun from room before after old new read end did = record {
+    → DidLines meaning None (lines begun) from old new → IsTrue (is_ready new) → RanFrom meaning begun from room before after old new Done
+ran_done meaning begun from room before after old new read end did left = record {
   taken = [];
   read = read;
   whole = true;
@@ -110,6 +118,7 @@ ran_done meaning begun from room before after old new read end did = record {
   within = omega arith;
   past_limit = (λ e. absurd cc, λ e. absurd (omega (arith, e)));
   cause = tt;
+  ready = left;
 }
 
 -- a line without end is no line that ended
@@ -122,8 +131,8 @@ no_lines meaning all from a none = record { went = went_none meaning a; took = s
 -- ---- a read failed
 
 pub ran_read_fault : {S : Type 0} (meaning : Meaning S) (begun : List ℕ) (from room : ℕ) (before after : SourceView) (taker : TakerView S) → IsOpenLine begun → Consumes before.left after.left []
-    → Rose before.read_faults after.read_faults → RanFrom meaning begun from room before after taker taker ReadFault
-ran_read_fault meaning begun from room before after taker unended read rose = record {
+    → Rose before.read_faults after.read_faults → IsTrue (is_ready taker) → RanFrom meaning begun from room before after taker taker ReadFault
+ran_read_fault meaning begun from room before after taker unended read rose left = record {
   taken = [];
   read = read;
   whole = false;
@@ -138,6 +147,7 @@ ran_read_fault meaning begun from room before after taker unended read rose = re
   within = omega arith;
   past_limit = (λ e. absurd cc, λ e. absurd (omega (arith, e)));
   cause = rose;
+  ready = left;
 }
 
 -- ---- past the limit
@@ -151,9 +161,9 @@ take_past (b ∷ x) y k =
 only_begun : (begun taken : List ℕ) → take (length begun + 0) (begun ++ taken) ≡ begun
 only_begun begun taken = take_past begun taken 0 ∙ append-nil begun
 
-pub ran_too_long : {S : Type 0} (meaning : Meaning S) (begun : List ℕ) (from : ℕ) (before after : SourceView) (taker : TakerView S) (taken : List ℕ) → IsOpenLine begun → Consumes before.left after.left taken → length taken ≡ 1
+pub ran_too_long : {S : Type 0} (meaning : Meaning S) (begun : List ℕ) (from : ℕ) (before after : SourceView) (taker : TakerView S) (taken : List ℕ) → IsOpenLine begun → Consumes before.left after.left taken → length taken ≡ 1 → IsTrue (is_ready taker)
     → RanFrom meaning begun from 0 before after taker taker TooLong
-ran_too_long meaning begun from before after taker taken unended read one = record {
+ran_too_long meaning begun from before after taker taken unended read one left = record {
   taken = taken;
   read = read;
   whole = false;
@@ -168,6 +178,7 @@ ran_too_long meaning begun from before after taker taken unended read one = reco
   within = omega (arith, one);
   past_limit = (λ e. omega (arith, one), λ e. refl);
   cause = tt;
+  ready = left;
 }
 
 -- ---- a piece, and what follows it
@@ -221,4 +232,5 @@ ran_on {S} meaning begun from room rest number room_now before mid after old vie
       within = omega (arith, length-append on.piece ran.taken, on.room, ran.within);
       past_limit = (λ e. omega (arith, length-append on.piece ran.taken, on.room, ran.past_limit.0 e), λ e. ran.past_limit.1 (omega (arith, length-append on.piece ran.taken, on.room, e)));
       cause = cause_on ending before mid after old view new later ran.cause;
+      ready = ran.ready;
     }

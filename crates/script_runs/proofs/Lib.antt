@@ -4,5 +4,5 @@ pub mod Joined
 pub mod LineLemmas
 pub mod Loops
 pub mod Pieces
-pub mod Ready
 pub mod Runs
+pub mod Rooms

@@ -1,14 +1,14 @@
 -- What the loops of a script keep.
-use Rattle.std.proofs.Common.{◌≡◌, ℕ, ◌+◌, ◌^◌, ◌<◌, ◌≤◌, ◌&&◌, IsTrue, List, [], ◌∷◌, ◌++◌, length, Option, None}
+use Rattle.std.proofs.Common.{◌≡◌, ℕ, ◌+◌, ◌^◌, ◌<◌, ◌≤◌, IsTrue, List, [], ◌∷◌, ◌++◌, length, None}
 use Rattle.script_runs.specs.Lines.{parts_of, ended_lines, rest_of}
-use Rattle.script_runs.specs.TakerView.{TakerView}
+use Rattle.script_runs.specs.TakerView.{TakerView, is_ready}
 use Rattle.script_runs.specs.Taken.{Meaning, DidLines}
 use Rattle.script_runs.specs.Script.{SourceView, ReadOn, IsLater, limit}
 use Rattle.script_runs.proofs.Joined.{NotYetDone}
 
 -- nothing is staged, and the counts haven't fallen
 pub record Ready {S : Type 0} (old new : TakerView S) : Type 0 where
-  pub is_ready : IsTrue (new.clean && new.live)
+  pub is_ready : IsTrue (is_ready new)
   pub disk_later : old.disk_faults ≤ new.disk_faults
   pub say_later : old.say_faults ≤ new.say_faults
 
@@ -27,7 +27,7 @@ pub record PieceSoFar {S : Type 0} (meaning : Meaning S) (begun : List ℕ) (fro
 
 -- a script so far: the pieces that were read, as one
 pub record PiecesSoFar {S : Type 0} (meaning : Meaning S) (line : List ℕ) (number room : ℕ) (before now : SourceView) (old view : TakerView S) : Type 0 where
-  pub is_ready : IsTrue (view.clean && view.live)
+  pub is_ready : IsTrue (is_ready view)
   pub unended : parts_of line ≡ line ∷ []
   pub numbers : number + room < 2 ^ 30
   pub so_far : ReadOn meaning [] 1 limit line number room before now old view

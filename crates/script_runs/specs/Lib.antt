@@ -1,3 +1,4 @@
+pub mod Faults
 pub mod Language
 pub mod Lines
 pub mod Script

@@ -1,11 +1,12 @@
 -- What a call that runs a whole script did.
-use Rattle.std.specs.Prelude.{◌≡◌, ◌↔◌, ℕ, ◌+◌, ◌≤◌, ◌++◌, Bool, true, false, if◌then◌else◌, List, [], length, take, Option, None, Some}
+use Rattle.std.specs.Prelude.{◌≡◌, ◌↔◌, ℕ, ◌+◌, ◌≤◌, ◌++◌, Bool, true, false, List, [], length, take, Option, None, Some, IsTrue}
 use Rattle.std.specs.Io.KnownBytes.{Consumes, IsAtEnd}
 use Rattle.std.specs.Str.Lines.{lines}
 use Rattle.hal_base.specs.Fault.{Rose}
+use Rattle.hal_base.specs.declared.source.Source.{Ghosts as Source}
 use Rattle.script_runs.specs.Language.{Step}
 use Rattle.script_runs.specs.Lines.{ended_lines, rest_of}
-use Rattle.script_runs.specs.TakerView.{TakerView}
+use Rattle.script_runs.specs.TakerView.{TakerView, is_ready}
 use Rattle.script_runs.specs.Taken.{Meaning, Lines, DidLines}
 use Rattle.script_runs.specs.declared.taker.EngineFault.{EngineFault}
 use Rattle.script_runs.specs.declared.taker.EngineFault.TheVariants as engine
@@ -17,8 +18,9 @@ pub record SourceView : Type 0 where
   pub left : Option (List ℕ)
   pub read_faults : ℕ
 
-abbrev pub source_view : {X : Type 0} → (X → Option (List ℕ)) → (X → ℕ) → X → SourceView
-source_view left faults source = record { left = left source; read_faults = faults source }
+-- by what its trait tells of it
+abbrev pub source_view : {X : Type 0} → Source X → X → SourceView
+source_view tells source = record { left = tells.left source; read_faults = tells.read_faults source }
 
 -- the most bytes that a script may have
 abbrev pub limit : ℕ
@@ -65,9 +67,15 @@ HasItsCause SayFault before after old new = Rose old.say_faults new.say_faults
 HasItsCause DiskFault before after old new = Rose old.disk_faults new.disk_faults
 HasItsCause other before after old new = Unit {0}
 
+-- after a fault of the disk the taker may be used no more; after any other ending it is ready for another script
+abbrev pub IsLeftAt : {S : Type 0} → Ending → TakerView S → Type 0
+IsLeftAt DiskFault view = view.live ≡ false
+IsLeftAt other view = IsTrue (is_ready view)
+
 -- What was taken of the source, the events of its lines, and at most one more that a fault cut short. Before it some bytes
 -- of a line were read, with its number, and so many more may be.
-pub record RanFrom {S : Type 0} (meaning : Meaning S) (line : List ℕ) (number room : ℕ) (before after : SourceView) (old new : TakerView S) (ending : Ending) : Type 0 where
+pub record RanFrom {S : Type 0} (meaning : Meaning S) (line : List ℕ) (number room : ℕ)
+    (before after : SourceView) (old new : TakerView S) (ending : Ending) : Type 0 where
   pub taken : List ℕ
   pub read : Consumes before.left after.left taken
   -- whether the source was found at its end
@@ -85,10 +93,12 @@ pub record RanFrom {S : Type 0} (meaning : Meaning S) (line : List ℕ) (number 
   pub within : length taken ≤ room + 1
   pub past_limit : (ending ≡ TooLong) ↔ (length taken ≡ room + 1)
   pub cause : HasItsCause ending before after old new
+  pub ready : IsLeftAt ending new
 
 -- A piece was read, and the lines that ended in it are done: the line that is begun now, its number, and how many more
 -- bytes may be read.
-pub record ReadOn {S : Type 0} (meaning : Meaning S) (begun : List ℕ) (from most : ℕ) (line_now : List ℕ) (number_now room_now : ℕ) (before after : SourceView) (old new : TakerView S) : Type 0 where
+pub record ReadOn {S : Type 0} (meaning : Meaning S) (begun : List ℕ) (from most : ℕ) (line_now : List ℕ) (number_now room_now : ℕ)
+    (before after : SourceView) (old new : TakerView S) : Type 0 where
   pub piece : List ℕ
   pub read : Consumes before.left after.left piece
   pub room : room_now + length piece ≡ most

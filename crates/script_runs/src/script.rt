@@ -1,11 +1,13 @@
 // Runs a script: reads the source in pieces, cuts the text into lines, and hands them to the taker one by one.
-ghost use Rattle.std.specs.Prelude.{ℕ, ◌&&◌, IsTrue, ◌≡◌, ◌+◌, ◌<◌, ◌≤◌, ◌^◌, ◌++◌, ◌∷◌, [], None, Some, length, take, IfOk, IfErr, IfNone, IfSome, OnOk, OnErr, Ok, min, max};
+ghost use Rattle.std.specs.Prelude.{ℕ, IsTrue, ◌≡◌, ◌+◌, ◌<◌, ◌≤◌, ◌^◌, ◌++◌, ◌∷◌, [], length, take, IfOk, IfNone, IfSome, OnOk, OnErr, Ok};
 ghost use Rattle.std.specs.Io.KnownBytes.{Consumes, IsAtEnd, Keeps};
 ghost use Rattle.std.specs.Str.Lines.{lines, strip_carriage_return};
 ghost use Rattle.hal_base.specs.Fault.{HasCause};
+ghost use Rattle.script_runs.specs.Faults.{EndsLines};
 ghost use Rattle.script_runs.specs.Lines.{parts_of, ended_lines, rest_of};
 ghost use Rattle.script_runs.specs.Script.{IsLater, RanFrom, RanScript, ReadOn, SourceView, source_view};
-ghost use Rattle.script_runs.specs.Taken.{HasEngineCause, DidLines, CutLines};
+ghost use Rattle.script_runs.specs.Taken.{TookLines};
+ghost use Rattle.script_runs.specs.TakerView.{is_ready};
 
 use crate::{Ending, EngineFault, LineTaker};
 use hal_base::{Bytes, Failed, Source};
@@ -25,13 +27,11 @@ struct Pending {
 
 // Takes one line, again while it isn't done.
 fn take_line<L: LineTaker>(taker: &mut L, number: u32, text: &[u8]) -> Result<(), EngineFault>
-    requires { IsTrue ((L.seen taker.old).clean && (L.seen taker.old).live) }
+    requires { IsTrue (is_ready (L.seen taker.old)) }
     ensures schema { L.schema taker.new ≡ L.schema taker.old }
     ensures steady { L.steady taker.old taker.new }
-    ensures ready { OnOk result (IsTrue ((L.seen taker.new).clean && (L.seen taker.new).live)) }
-    ensures did { OnOk result (DidLines (L.meaning (L.schema taker.old)) None (text.now ∷ []) number (L.seen taker.old) (L.seen taker.new)) }
-    ensures stopped { IfErr result (CutLines (L.meaning (L.schema taker.old)) None (text.now ∷ []) number (L.seen taker.old) (L.seen taker.new)) }
-    ensures cause { HasEngineCause (L.seen taker.old).disk_faults (L.seen taker.new).disk_faults (L.seen taker.old).say_faults (L.seen taker.new).say_faults result }
+    ensures took { TookLines (L.meaning (L.schema taker.old)) (text.now ∷ []) number (L.seen taker.old) (L.seen taker.new) result }
+    ensures ends { EndsLines result (L.seen taker.old) (L.seen taker.new) }
 {
     'units: loop {
         if taker.line(None, number, text)? {
@@ -46,18 +46,17 @@ fn take_byte<L: LineTaker>(
     pending: &mut Pending,
     byte: u8,
 ) -> Result<(), EngineFault>
-    requires ready { IsTrue ((L.seen taker.old).clean && (L.seen taker.old).live) }
+    requires ready { IsTrue (is_ready (L.seen taker.old)) }
     requires unended { parts_of pending.old.line ≡ pending.old.line ∷ [] }
     requires number { pending.old.number < 2 ^ 31 }
     ensures schema { L.schema taker.new ≡ L.schema taker.old }
     ensures steady { L.steady taker.old taker.new }
-    ensures ready { OnOk result (IsTrue ((L.seen taker.new).clean && (L.seen taker.new).live)) }
     ensures line { OnOk result (pending.new.line ≡ rest_of (pending.old.line ++ byte ∷ [])) }
     ensures number { OnOk result (pending.new.number ≡ pending.old.number + length (ended_lines (pending.old.line ++ byte ∷ []))) }
     ensures rises { OnOk result (pending.new.number ≤ pending.old.number + 1) }
-    ensures did { OnOk result (DidLines (L.meaning (L.schema taker.old)) None (ended_lines (pending.old.line ++ byte ∷ [])) pending.old.number (L.seen taker.old) (L.seen taker.new)) }
-    ensures stopped { IfErr result (CutLines (L.meaning (L.schema taker.old)) None (ended_lines (pending.old.line ++ byte ∷ [])) pending.old.number (L.seen taker.old) (L.seen taker.new)) }
-    ensures cause { HasEngineCause (L.seen taker.old).disk_faults (L.seen taker.new).disk_faults (L.seen taker.old).say_faults (L.seen taker.new).say_faults result }
+    ensures took { TookLines (L.meaning (L.schema taker.old)) (ended_lines (pending.old.line ++ byte ∷ [])) pending.old.number
+        (L.seen taker.old) (L.seen taker.new) result }
+    ensures ends { EndsLines result (L.seen taker.old) (L.seen taker.new) }
 {
     if byte != b'\n' {
         pending.line.push(byte)?;
@@ -75,18 +74,17 @@ fn take_piece<L: LineTaker>(
     pending: &mut Pending,
     piece: &[u8],
 ) -> Result<(), EngineFault>
-    requires ready { IsTrue ((L.seen taker.old).clean && (L.seen taker.old).live) }
+    requires ready { IsTrue (is_ready (L.seen taker.old)) }
     requires unended { parts_of pending.old.line ≡ pending.old.line ∷ [] }
     requires number { pending.old.number + length piece.now < 2 ^ 31 }
     ensures schema { L.schema taker.new ≡ L.schema taker.old }
     ensures steady { L.steady taker.old taker.new }
-    ensures ready { OnOk result (IsTrue ((L.seen taker.new).clean && (L.seen taker.new).live)) }
     ensures line { OnOk result (pending.new.line ≡ rest_of (pending.old.line ++ piece.now)) }
     ensures number { OnOk result (pending.new.number ≡ pending.old.number + length (ended_lines (pending.old.line ++ piece.now))) }
     ensures rises { OnOk result (pending.new.number ≤ pending.old.number + length piece.now) }
-    ensures did { OnOk result (DidLines (L.meaning (L.schema taker.old)) None (ended_lines (pending.old.line ++ piece.now)) pending.old.number (L.seen taker.old) (L.seen taker.new)) }
-    ensures stopped { IfErr result (CutLines (L.meaning (L.schema taker.old)) None (ended_lines (pending.old.line ++ piece.now)) pending.old.number (L.seen taker.old) (L.seen taker.new)) }
-    ensures cause { HasEngineCause (L.seen taker.old).disk_faults (L.seen taker.new).disk_faults (L.seen taker.old).say_faults (L.seen taker.new).say_faults result }
+    ensures took { TookLines (L.meaning (L.schema taker.old)) (ended_lines (pending.old.line ++ piece.now)) pending.old.number
+        (L.seen taker.old) (L.seen taker.new) result }
+    ensures ends { EndsLines result (L.seen taker.old) (L.seen taker.new) }
 {
     for byte in piece {
         take_byte(taker, pending, *byte)?;
@@ -96,13 +94,12 @@ fn take_piece<L: LineTaker>(
 
 // Takes the last line, which has no end; where nothing stands behind the last line end there is none.
 fn take_last<L: LineTaker>(taker: &mut L, pending: &Pending) -> Result<(), EngineFault>
-    requires ready { IsTrue ((L.seen taker.old).clean && (L.seen taker.old).live) }
+    requires ready { IsTrue (is_ready (L.seen taker.old)) }
     requires unended { parts_of pending.now.line ≡ pending.now.line ∷ [] }
     ensures schema { L.schema taker.new ≡ L.schema taker.old }
     ensures steady { L.steady taker.old taker.new }
-    ensures did { OnOk result (DidLines (L.meaning (L.schema taker.old)) None (lines pending.now.line) pending.now.number (L.seen taker.old) (L.seen taker.new)) }
-    ensures stopped { IfErr result (CutLines (L.meaning (L.schema taker.old)) None (lines pending.now.line) pending.now.number (L.seen taker.old) (L.seen taker.new)) }
-    ensures cause { HasEngineCause (L.seen taker.old).disk_faults (L.seen taker.new).disk_faults (L.seen taker.old).say_faults (L.seen taker.new).say_faults result }
+    ensures took { TookLines (L.meaning (L.schema taker.old)) (lines pending.now.line) pending.now.number (L.seen taker.old) (L.seen taker.new) result }
+    ensures ends { EndsLines result (L.seen taker.old) (L.seen taker.new) }
 {
     if pending.line.is_empty() {
         return Ok(());
@@ -129,7 +126,7 @@ pub fn read_piece<S: Source>(
 
 // The source is at its end: takes the last line.
 fn finish<L: LineTaker>(taker: &mut L, pending: &Pending) -> Ending
-    requires ready { IsTrue ((L.seen taker.old).clean && (L.seen taker.old).live) }
+    requires ready { IsTrue (is_ready (L.seen taker.old)) }
     requires unended { parts_of pending.now.line ≡ pending.now.line ∷ [] }
     ensures schema { L.schema taker.new ≡ L.schema taker.old }
     ensures steady { L.steady taker.old taker.new }
@@ -150,24 +147,25 @@ fn step<S: Source, L: LineTaker>(
     pending: &mut Pending,
     room: &mut u32,
 ) -> Option<Ending>
-    requires ready { IsTrue ((L.seen taker.old).clean && (L.seen taker.old).live) }
+    requires ready { IsTrue (is_ready (L.seen taker.old)) }
     requires unended { parts_of pending.old.line ≡ pending.old.line ∷ [] }
     requires number { pending.old.number + room.old < 2 ^ 30 }
     requires some { 0 < room.old }
     ensures schema { L.schema taker.new ≡ L.schema taker.old }
     ensures steady { L.steady taker.old taker.new }
-    ensures ready { IfNone result (IsTrue ((L.seen taker.new).clean && (L.seen taker.new).live)) }
+    ensures ready { IfNone result (IsTrue (is_ready (L.seen taker.new))) }
     ensures number { IfNone result (pending.new.number + room.new < 2 ^ 30) }
     ensures nearer { IfNone result (room.new < room.old) }
-    ensures on { IfNone result (ReadOn (L.meaning (L.schema taker.old)) pending.old.line pending.old.number room.old pending.new.line pending.new.number room.new
-        (source_view S.left S.read_faults source.old)
-        (source_view S.left S.read_faults source.new)
+    ensures on { IfNone result (ReadOn (L.meaning (L.schema taker.old)) pending.old.line pending.old.number room.old
+        pending.new.line pending.new.number room.new
+        (source_view S.Source source.old)
+        (source_view S.Source source.new)
         (L.seen taker.old) (L.seen taker.new)) }
     ensures ended { IfSome result (RanFrom (L.meaning (L.schema taker.old)) pending.old.line pending.old.number room.old
-        (source_view S.left S.read_faults source.old)
-        (source_view S.left S.read_faults source.new)
+        (source_view S.Source source.old)
+        (source_view S.Source source.new)
         (L.seen taker.old) (L.seen taker.new)) }
-    ensures later { IsLater (source_view S.left S.read_faults source.old) (source_view S.left S.read_faults source.new) (L.seen taker.old) (L.seen taker.new) }
+    ensures later { IsLater (source_view S.Source source.old) (source_view S.Source source.new) (L.seen taker.old) (L.seen taker.new) }
 {
     let mut buffer = [0u8; PIECE];
     let most = PIECE.min(*room as usize);
@@ -187,15 +185,15 @@ fn step<S: Source, L: LineTaker>(
 
 // The limit is reached: one more byte is too many.
 fn read_past<S: Source, L: LineTaker>(source: &mut S, taker: &mut L, pending: &Pending) -> Ending
-    requires ready { IsTrue ((L.seen taker.old).clean && (L.seen taker.old).live) }
+    requires ready { IsTrue (is_ready (L.seen taker.old)) }
     requires unended { parts_of pending.now.line ≡ pending.now.line ∷ [] }
     ensures schema { L.schema taker.new ≡ L.schema taker.old }
     ensures steady { L.steady taker.old taker.new }
     ensures ended { RanFrom (L.meaning (L.schema taker.old)) pending.now.line pending.now.number 0
-        (source_view S.left S.read_faults source.old)
-        (source_view S.left S.read_faults source.new)
+        (source_view S.Source source.old)
+        (source_view S.Source source.new)
         (L.seen taker.old) (L.seen taker.new) result }
-    ensures later { IsLater (source_view S.left S.read_faults source.old) (source_view S.left S.read_faults source.new) (L.seen taker.old) (L.seen taker.new) }
+    ensures later { IsLater (source_view S.Source source.old) (source_view S.Source source.new) (L.seen taker.old) (L.seen taker.new) }
 {
     let mut buffer = [0u8];
     match read_piece(source, &mut buffer, 1) {
@@ -208,14 +206,14 @@ fn read_past<S: Source, L: LineTaker>(source: &mut S, taker: &mut L, pending: &P
 /// Runs the whole script of a source. At most one byte past the limit is read, and only once each line that ended
 /// within it is done.
 pub fn run_script<S: Source, L: LineTaker>(alloc: Global, source: &mut S, taker: &mut L) -> Ending
-    requires { IsTrue ((L.seen taker.old).clean && (L.seen taker.old).live) }
+    requires { IsTrue (is_ready (L.seen taker.old)) }
     ensures schema { L.schema taker.new ≡ L.schema taker.old }
     ensures steady { L.steady taker.old taker.new }
     ensures ran { RanScript (L.meaning (L.schema taker.old))
-        (source_view S.left S.read_faults source.old)
-        (source_view S.left S.read_faults source.new)
+        (source_view S.Source source.old)
+        (source_view S.Source source.new)
         (L.seen taker.old) (L.seen taker.new) result }
-    ensures later { IsLater (source_view S.left S.read_faults source.old) (source_view S.left S.read_faults source.new) (L.seen taker.old) (L.seen taker.new) }
+    ensures later { IsLater (source_view S.Source source.old) (source_view S.Source source.new) (L.seen taker.old) (L.seen taker.new) }
 {
     let mut pending = Pending {
         line: Bytes::new(alloc),
