@@ -7,3 +7,5 @@ pub mod Parsed
 pub mod RootCase
 pub mod Walks
 pub mod WordLemmas
+pub mod Rooms
+pub mod Kept

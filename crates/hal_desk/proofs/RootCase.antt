@@ -1,6 +1,6 @@
 -- In a forest of the first schema all rows are roots in the order of their keys, and inserting one is inserting it there.
-use Rattle.std.proofs.Common.{◌≡◌, ℕ, zero, suc, ◌+◌, ◌<◌, ◌≤◌, Bool, true, false, cond, not, List, [], ◌∷◌, ◌++◌, length, reverse, insert, take, drop, nat_lt, IsTrue, codes, unwrap_or, Option, None, Some, IsSome, refl, sym, ap, ◌∙◌, subst, arith}
-use Rattle.std.specs.Prelude.{◌==◌, ◌&&◌, ◌||◌, filter, is_some, is_none}
+use Rattle.std.proofs.Common.{◌≡◌, ℕ, zero, suc, ◌+◌, ◌≤◌, Bool, true, false, cond, not, List, [], ◌∷◌, ◌++◌, length, reverse, insert, take, drop, nat_lt, IsTrue, codes, unwrap_or, Option, None, Some, IsSome, refl, sym, ap, ◌∙◌, subst, arith}
+use Rattle.std.specs.Prelude.{◌==◌, ◌||◌, filter, is_some, is_none}
 use Rattle.std.specs.List.{prefix_len, list_all}
 use Rattle.std.proofs.lemmas.Grind.{reverse_onto}
 use Rattle.std.proofs.lemmas.List.{length-reverse}
@@ -16,7 +16,7 @@ use Rattle.std.specs.Str.{bytes_eq}
 use Rattle.hal_base.specs.declared.place.Ilk.{Ilk}
 use Rattle.hal_schema.specs.declared.row.Row.{Row}
 use Rattle.hal_schema.specs.First.{first_schema, first_types}
-use Rattle.hal_schema.specs.Forest.{has_length, is_path, is_child_of, is_selected, in_twin_order, rows_are_named, rows_are_below_parents, types_rise, twins_rise, keys_are_placed, entries_differ, all_pairs, names_apart}
+use Rattle.hal_schema.specs.Forest.{has_length, is_path, is_child_of, is_selected, in_twin_order, rows_are_named, rows_are_below_parents, types_rise, twins_rise, keys_are_placed, entries_differ, all_pairs, names_apart, is_forest}
 use Rattle.hal_schema.specs.Insertion.{through_last, stands_before, goes_before, inserted, insertion_place}
 use Rattle.hal_schema.specs.Keys.{key_cmp}
 use Rattle.hal_schema.specs.Row.{row_key, row_level}
@@ -87,7 +87,7 @@ pub record IsRootRow (row : Row) : Type 0 where
   pub parent : row.parent ≡ None
   pub selected : IsSome (partition_of first_schema (root_key row))
 
-as_root : (row : Row) → row.code ≡ 1 → row.parent ≡ None → row ≡ new_root row.name row.content
+pub as_root : (row : Row) → row.code ≡ 1 → row.parent ≡ None → row ≡ new_root row.name row.content
 as_root row e f =
     let a : Row = record { name = row.name; code = row.code; parent = row.parent; content = row.content } in
     let b : Row = record { name = row.name; code = 1; parent = row.parent; content = row.content } in
@@ -108,7 +108,7 @@ place_case false h = cc
 place_zero : (key : List ℕ) → IsSome (partition_of first_schema key) → partition_place first_schema key ≡ 0
 place_zero key h = place_case (is_le (key_cmp key (codes "~~~"))) h
 
-root_same : (a b : List ℕ) → IsSome (partition_of first_schema a) → IsSome (partition_of first_schema b) → root_cmp first_schema a b ≡ key_cmp a b
+pub root_same : (a b : List ℕ) → IsSome (partition_of first_schema a) → IsSome (partition_of first_schema b) → root_cmp first_schema a b ≡ key_cmp a b
 root_same a b p q =
     ap (λ (m : ℕ). ordering_then (nat_cmp m (partition_place first_schema b)) (key_cmp a b)) (place_zero a p)
     ∙ ap (λ (n : ℕ). ordering_then (nat_cmp 0 n) (key_cmp a b)) (place_zero b q)
@@ -143,7 +143,7 @@ code_one zero m h = cc
 code_one (suc zero) m h = refl
 code_one (suc (suc n)) m h = cc
 
-AllRoots : List Row → Type 0
+unfoldable pub AllRoots : List Row → Type 0
 AllRoots [] = Unit {0}
 AllRoots (row ∷ rows) = IsRootRow row × AllRoots rows
 
@@ -161,7 +161,7 @@ none_above (a ∷ path) row all e =
     let rest = filter (λ above. nat_lt (row_level first_types above) (row_level first_types row)) path in
     ap (λ b. cond b (a ∷ rest) rest) apart ∙ none_above path row all.1 e
 
-is_nothing : {X : Type 0} (o : Option X) → is_none o ≡ true → o ≡ None
+pub is_nothing : {X : Type 0} (o : Option X) → is_none o ≡ true → o ≡ None
 is_nothing None h = refl
 is_nothing (Some x) h = cc
 
@@ -225,7 +225,7 @@ unfolding Above
 above_through key row [] less above = tt
 above_through key row (next ∷ rows) less above = (nat_list_cmp_total.trans key (root_key row) (root_key next) less above.0, above_through key row rows less above.1)
 
-fresh_case : (b : Bool) (row : Row) (o : Option Row) → cond b (Some row) o ≡ None → (b ≡ false) × (o ≡ None)
+pub fresh_case : (b : Bool) (row : Row) (o : Option Row) → cond b (Some row) o ≡ None → (b ≡ false) × (o ≡ None)
 fresh_case true row o e = cc
 fresh_case false row o e = (refl, e)
 
@@ -268,16 +268,22 @@ no_deeper (suc k) [] roots = refl
 no_deeper zero (row ∷ rows) roots = ap (λ (c : ℕ). cond (nat_lt (level_of first_types 1) (level_of first_types c)) (1 + prefix_len (λ (r : Row). nat_lt (level_of first_types 1) (level_of first_types r.code)) rows) 0) roots.0.code
 no_deeper (suc k) (row ∷ rows) roots = no_deeper k rows roots.1
 
-pub insertion_is_a_case : InsertionIsACase
+pub roots_of : (rows : List Row) → is_forest first_schema rows ≡ true → AllRoots rows
 unfolding AllCodes
-insertion_is_a_case rows new forest is =
+roots_of rows forest =
     let a = and_parts _ (keys_are_placed first_schema rows) forest in
     let b = and_parts _ (twins_rise first_schema rows) a.0 in
     let c = and_parts _ (types_rise rows) b.0 in
     let d = and_parts (rows_are_named first_types rows) (rows_are_below_parents first_types rows) c.0 in
     let named = and_parts (all_pairs names_apart rows) (list_all (has_length first_types) rows) d.0 in
     let placed = and_parts (list_all (is_selected first_schema) rows) (list_all (entries_differ first_types rows) []) a.1 in
-    let roots : AllRoots rows = all_roots [] rows tt named.1 d.1 placed.0 in
+    all_roots [] rows tt named.1 d.1 placed.0
+
+pub insertion_is_a_case : InsertionIsACase
+insertion_is_a_case rows new forest is =
+    let a = and_parts _ (keys_are_placed first_schema rows) forest in
+    let b = and_parts _ (twins_rise first_schema rows) a.0 in
+    let roots : AllRoots rows = roots_of rows forest in
     let up : Rising rows = rising rows roots b.1 in
     let P : List ℕ → Type 0 = λ k. IsSome (partition_of first_schema k) in
     let q : IsSome (partition_of first_schema (root_key new)) = subst P (key_is new is.code) is.selected in

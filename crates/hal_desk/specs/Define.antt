@@ -1,7 +1,7 @@
 -- What `define` makes of its source: DBD text down to its END line, and the partition file behind it.
 use Rattle.std.specs.Prelude.{ℕ, ◌≡◌, ◌+◌, ◌≤◌, ◌⊎◌, ◌++◌, if◌then◌else◌, List, length, drop, Option, None, Some, Result, Ok, Err, codes}
 use Rattle.std.specs.Fmt.{decimal}
-use Rattle.std.specs.Io.KnownBytes.{Consumes, IsAtEnd, Keeps}
+use Rattle.std.specs.Io.KnownBytes.{Consumes, IsAtEnd}
 use Rattle.hal_base.specs.Fault.{Rose}
 use Rattle.hal_schema.specs.declared.fault.Place.{Place}
 use Rattle.hal_schema.specs.declared.raw.RawDbd.{RawDbd}
@@ -15,7 +15,7 @@ use Rattle.dbd_reader.specs.Definition.{meaning_of}
 use Rattle.partition_reader.specs.Partitions.{partitions_of}
 use Rattle.hal_desk.specs.declared.define.Answer.{Answer}
 use Rattle.script_runs.specs.Script.{limit}
-use Rattle.hal_desk.specs.Outside.{Outside}
+use Rattle.hal_desk.specs.Outside.{Outside, Untouched}
 use Rattle.hal_desk.specs.Says.{SaysLine}
 
 -- a rule that is broken, and where
@@ -51,7 +51,8 @@ definition_of text = judged (with_dbd text (meaning_of text))
 
 abbrev pub checked_line : RawSchema → List ℕ
 checked_line raw =
-    codes "checked " ++ raw.dbd.name ++ codes " partitions " ++ decimal (length raw.parts.parts) ++ codes " blocks " ++ decimal raw.parts.blocks ++ codes "\n"
+    codes "checked " ++ raw.dbd.name ++ codes " partitions " ++ decimal (length raw.parts.parts)
+    ++ codes " blocks " ++ decimal raw.parts.blocks ++ codes "\n"
 
 abbrev pub place_words : Place → List ℕ
 place_words place = (if place.part then codes "partition " else codes "line ") ++ decimal place.line
@@ -65,15 +66,16 @@ answer_of (Ok raw) = record { line = checked_line raw; status = 0 }
 answer_of (Err broken) = record { line = refused_line broken; status = 7 }
 
 -- How `define` ends once these bytes were taken. Where the whole source was read, within the limit, its line is said.
--- Else nothing is: a read failed; memory ran out; a byte past the limit was taken.
+-- Else the site isn't touched: a read failed; memory ran out; a byte past the limit was taken.
 abbrev pub DefineEnds : List ℕ → Outside → Outside → ℕ → Type 0
 DefineEnds taken before after status =
-    ((length taken ≤ limit) × IsAtEnd after.left × SaysLine (answer_of (definition_of taken)).line (answer_of (definition_of taken)).status before.said after.said before.say_faults after.say_faults status)
-    ⊎ ((status ≡ 5) × (length taken ≤ limit) × Keeps before.said after.said × Rose before.read_faults after.read_faults)
-    ⊎ ((status ≡ 8) × (length taken ≤ limit) × Keeps before.said after.said)
-    ⊎ ((status ≡ 10) × (length taken ≡ limit + 1) × Keeps before.said after.said)
+    let answer = answer_of (definition_of taken) in
+    ((length taken ≤ limit) × IsAtEnd after.source.left × SaysLine answer.line answer.status before.site after.site status)
+    ⊎ ((status ≡ 5) × (length taken ≤ limit) × Untouched before.site after.site × Rose before.source.read_faults after.source.read_faults)
+    ⊎ ((status ≡ 8) × (length taken ≤ limit) × Untouched before.site after.site)
+    ⊎ ((status ≡ 10) × (length taken ≡ limit + 1) × Untouched before.site after.site)
 
 pub record RanDefine (before after : Outside) (status : ℕ) : Type 0 where
   pub taken : List ℕ
-  pub read : Consumes before.left after.left taken
+  pub read : Consumes before.source.left after.source.left taken
   pub ends : DefineEnds taken before after status

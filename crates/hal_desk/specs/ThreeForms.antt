@@ -20,4 +20,4 @@ abbrev pub kept_nowhere : Keeping State
 kept_nowhere = record { holds = λ blocks state. ⊤; free = λ blocks. 0 }
 
 abbrev pub meaning : Meaning State
-meaning = record { language = three_forms; keeping = kept_nowhere }
+meaning = record { language = three_forms; keeping = kept_nowhere; rows = λ state. state.forest; parts = λ state. state.parts }

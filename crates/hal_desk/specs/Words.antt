@@ -1,7 +1,7 @@
 -- Which words are a command, and what it says: the table of commands. `crew` is no command here, since it is another call's.
 use Rattle.hal_base.specs.Name.{is_digit}
 use Rattle.hal_base.specs.Numbers.{number_of}
-use Rattle.std.specs.Prelude.{ℕ, ◌+◌, ◌*◌, ◌-◌, ◌&&◌, ◌||◌, ◌==◌, nat_le, not, Bool, false, if◌then◌else◌, List, [], ◌∷◌, length, fold, Option, None, Some, codes}
+use Rattle.std.specs.Prelude.{ℕ, ◌&&◌, ◌||◌, ◌==◌, nat_le, not, Bool, false, if◌then◌else◌, List, [], ◌∷◌, length, Option, None, Some, codes}
 use Rattle.std.specs.List.{list_all}
 use Rattle.std.specs.Str.{bytes_eq}
 use Rattle.hal_desk.specs.declared.words.Command.{Command}

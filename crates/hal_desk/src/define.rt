@@ -4,7 +4,7 @@ ghost use Rattle.hal_base.specs.Fault.{Rose};
 ghost use Rattle.hal_schema.specs.Named.{dbd_is_named, parts_are_named};
 ghost use Rattle.hal_desk.specs.Define.{RanDefine, answer_of, checked_line, definition_of, judged, place_words, refused_line};
 ghost use Rattle.script_runs.specs.Script.{limit};
-ghost use Rattle.hal_desk.specs.Outside.{LeavesImage, outside};
+ghost use Rattle.hal_desk.specs.Outside.{LeavesImage, outside, site_view};
 
 use crate::desk::{Ended, say_line};
 use crate::source::take_all;
@@ -24,10 +24,10 @@ pub struct Answer {
 /// Takes its whole source in, and says whether it is a definition.
 pub(crate) fn define<S: Source, T: Site>(alloc: Global, source: &mut S, site: T) -> Ended<T>
     ensures ran { RanDefine
-        (outside S.left S.read_faults T.image T.said T.moment T.left_at T.disk_faults T.say_faults source.old site)
-        (outside S.left S.read_faults T.image T.said T.moment T.left_at T.disk_faults T.say_faults source.new result.site)
+        (outside S.Source T.Site source.old site)
+        (outside S.Source T.Site source.new result.site)
         result.status }
-    ensures leaves { LeavesImage T.image T.disk_faults T.moment T.left_at site result.site }
+    ensures leaves { LeavesImage (site_view T.Site site) (site_view T.Site result.site) }
     ensures later { (S.read_faults source.old ≤ S.read_faults source.new) × (T.say_faults site ≤ T.say_faults result.site) }
 {
     let text = match take_all(alloc, source) {

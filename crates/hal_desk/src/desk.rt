@@ -4,7 +4,7 @@ ghost use Rattle.std.specs.String.{string_bytes};
 ghost use Rattle.hal_base.specs.Fault.{Rose};
 
 use crate::define::define;
-use crate::{Command, OneList, read_command};
+use crate::{Command, OneList, read_command, runs_keep_a_forest};
 use hal_base::{Memory, Site, Source};
 use script_runs::run_script;
 use std::alloc::Global;
@@ -18,7 +18,7 @@ pub struct Ended<T> {
 
 ghost use Rattle.hal_desk.specs.Words.{command_of};
 ghost use Rattle.script_runs.specs.Script.{limit};
-ghost use Rattle.hal_desk.specs.Outside.{LeavesImage, outside};
+ghost use Rattle.hal_desk.specs.Outside.{LeavesImage, outside, site_view};
 ghost use Rattle.hal_desk.specs.Says.{SaysLine};
 ghost use Rattle.hal_desk.specs.Top.{Did, EndsWell, RanCall, reads_source};
 
@@ -28,10 +28,10 @@ pub fn run<S: Source, T: Site>(alloc: Global, words: &[String], source: &mut S, 
     // What the command did, and its status. Of `call`: what was said is the text of a run of the script's lines from the
     // empty list.
     ensures did { Did (command_of (map string_bytes words.now))
-        (outside S.left S.read_faults T.image T.said T.moment T.left_at T.disk_faults T.say_faults source.old site)
-        (outside S.left S.read_faults T.image T.said T.moment T.left_at T.disk_faults T.say_faults source.new result.site)
+        (outside S.Source T.Site source.old site)
+        (outside S.Source T.Site source.new result.site)
         result.status }
-    ensures leaves { LeavesImage T.image T.disk_faults T.moment T.left_at site result.site }
+    ensures leaves { LeavesImage (site_view T.Site site) (site_view T.Site result.site) }
 
     // Where the source tells a text within the limit and no count rose, the command ends well, or memory ran out.
     ensures complete { (text : _) → S.left source.old ≡ Some text → length text ≤ limit
@@ -51,10 +51,10 @@ pub fn run<S: Source, T: Site>(alloc: Global, words: &[String], source: &mut S, 
 
 fn obey<S: Source, T: Site>(alloc: Global, command: &Command, source: &mut S, site: T) -> Ended<T>
     ensures did { Did (Some command.now)
-        (outside S.left S.read_faults T.image T.said T.moment T.left_at T.disk_faults T.say_faults source.old site)
-        (outside S.left S.read_faults T.image T.said T.moment T.left_at T.disk_faults T.say_faults source.new result.site)
+        (outside S.Source T.Site source.old site)
+        (outside S.Source T.Site source.new result.site)
         result.status }
-    ensures leaves { LeavesImage T.image T.disk_faults T.moment T.left_at site result.site }
+    ensures leaves { LeavesImage (site_view T.Site site) (site_view T.Site result.site) }
     ensures unread { (IsTrue (reads_source (Some command.now)) → ⊥) → source.new ≡ source.old }
     ensures later { (S.read_faults source.old ≤ S.read_faults source.new) × (T.say_faults site ≤ T.say_faults result.site) }
 {
@@ -72,8 +72,8 @@ fn obey<S: Source, T: Site>(alloc: Global, command: &Command, source: &mut S, si
 
 // A command of the table that this version doesn't have yet.
 fn not_built<T: Site>(site: T) -> Ended<T>
-    ensures leaves { LeavesImage T.image T.disk_faults T.moment T.left_at site result.site }
-    ensures says { SaysLine (codes "refused not built\n") 11 (T.said site) (T.said result.site) (T.say_faults site) (T.say_faults result.site) result.status }
+    ensures leaves { LeavesImage (site_view T.Site site) (site_view T.Site result.site) }
+    ensures says { SaysLine (codes "refused not built\n") 11 (site_view T.Site site) (site_view T.Site result.site) result.status }
     ensures later { T.say_faults site ≤ T.say_faults result.site }
 {
     say_line(site, b"refused not built\n", 11)
@@ -82,12 +82,13 @@ fn not_built<T: Site>(site: T) -> Ended<T>
 /// Answers the script of the source over one list.
 fn call<S: Source, T: Site>(alloc: Global, source: &mut S, site: T) -> Ended<T>
     ensures ran { RanCall
-        (outside S.left S.read_faults T.image T.said T.moment T.left_at T.disk_faults T.say_faults source.old site)
-        (outside S.left S.read_faults T.image T.said T.moment T.left_at T.disk_faults T.say_faults source.new result.site)
+        (outside S.Source T.Site source.old site)
+        (outside S.Source T.Site source.new result.site)
         result.status }
-    ensures leaves { LeavesImage T.image T.disk_faults T.moment T.left_at site result.site }
+    ensures leaves { LeavesImage (site_view T.Site site) (site_view T.Site result.site) }
     ensures later { (S.read_faults source.old ≤ S.read_faults source.new) × (T.say_faults site ≤ T.say_faults result.site) }
 {
+    runs_keep_a_forest();
     let mut list = OneList::new(alloc, site);
     let ending = run_script(alloc, source, &mut list);
     Ended {
@@ -98,8 +99,8 @@ fn call<S: Source, T: Site>(alloc: Global, source: &mut S, site: T) -> Ended<T>
 
 /// Says the one line of a command.
 pub(crate) fn say_line<T: Site>(mut site: T, line: &[u8], status: u8) -> Ended<T>
-    ensures leaves { LeavesImage T.image T.disk_faults T.moment T.left_at site result.site }
-    ensures says { SaysLine line.now status (T.said site) (T.said result.site) (T.say_faults site) (T.say_faults result.site) result.status }
+    ensures leaves { LeavesImage (site_view T.Site site) (site_view T.Site result.site) }
+    ensures says { SaysLine line.now status (site_view T.Site site) (site_view T.Site result.site) result.status }
     ensures later { T.say_faults site ≤ T.say_faults result.site }
 {
     match site.say(line) {

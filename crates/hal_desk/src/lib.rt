@@ -23,7 +23,7 @@ mod words;
 
 pub use desk::{Ended, run};
 pub use form::{Form, read_form};
-pub use laws::insertion_is_a_case;
+pub use laws::{insertion_is_a_case, runs_keep_a_forest};
 pub use one_list::OneList;
 pub use roots::Roots;
 pub use state::State;

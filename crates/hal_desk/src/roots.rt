@@ -6,7 +6,7 @@ ghost use Rattle.hal_desk.specs.State.{root_key, root_of, root_inserted, is_lowe
 ghost use Rattle.hal_desk.specs.Reply.{reply, quoted, get_words, InsertsInto};
 
 use crate::{Form, read_form};
-use hal_base::{Bytes, Ilk, Memory};
+use hal_base::{Bytes, Ilk, List, Memory};
 use hal_schema::Row;
 use std::alloc::Global;
 
@@ -33,6 +33,17 @@ impl Roots {
             rows: Vec::new(alloc),
             is_open: false,
         }
+    }
+
+    /// Copies of the roots.
+    pub fn rows(&self) -> Result<List<Row>, Memory>
+        ensures { IfOk result (λ rows. rows ≡ (state_of self.now).forest) }
+    {
+        let mut rows = List::new(self.alloc);
+        for row in &self.rows {
+            rows.push(copied(row)?)?;
+        }
+        Ok(rows)
     }
 
     /// Does what the line says, and gives its reply's text.
@@ -104,6 +115,17 @@ impl Roots {
             }
         }
     }
+}
+
+fn copied(row: &Row) -> Result<Row, Memory>
+    ensures { IfOk result (λ copy. copy ≡ row.now) }
+{
+    Ok(Row {
+        name: row.name,
+        code: row.code,
+        parent: row.parent,
+        content: row.content.copy()?,
+    })
 }
 
 // The bytes of the sequence field.

@@ -1,8 +1,9 @@
 // The first path: a script over one list.
 use crate::{SMOOTH, Trouble, called};
 use hal_base::{Bytes, List, Site, Source};
-use hal_desk::run;
+use hal_desk::{OneList, run};
 use hal_disk::{MemSite, SureSource};
+use script_runs::LineTaker;
 use std::test::Fail;
 
 const TWO_LINES: &[u8] = b"PCB S A\nS ISRT R : '001aa'\n";
@@ -38,6 +39,34 @@ fn scripts_have_their_replies(rt: HostRuntime) -> Result<(), Fail> {
         assert_eq!(rt; outcome.status, 0, "{script}");
         assert_eq!(rt; outcome.said.as_slice(), said.as_bytes(), "{script}");
     }
+    Ok(())
+}
+
+#[test]
+fn a_list_tells_its_rows(rt: HostRuntime) -> Result<(), Fail> {
+    let alloc = rt.alloc();
+    let site = MemSite::new(alloc, Bytes::new(alloc), List::new(alloc));
+    let mut list = OneList::new(alloc, site);
+    for (number, line) in [
+        (1, "PCB S A"),
+        (2, "S ISRT R : '002bb'"),
+        (3, "S ISRT R : '001aa'"),
+        (4, "S ISRT R : '002cc'"),
+    ] {
+        assert_eq!(rt; list.line(None, number, line.as_bytes()), Ok(true));
+    }
+    let mut contents = Bytes::new(alloc);
+    match list.rows() {
+        Ok(rows) => {
+            for row in rows.as_slice() {
+                contents.append(row.content.as_slice())?;
+            }
+        }
+        Err(fault) => assert_eq!(rt; Err(fault), Ok(())),
+    }
+    assert_eq!(rt; contents.as_slice(), b"001aa002bb".as_slice());
+    assert_eq!(rt; list.states().map(|states| states.len()), Ok(0));
+    assert_eq!(rt; list.free_now(), 0);
     Ok(())
 }
 

@@ -1,17 +1,17 @@
 -- What events did to a taker, joined with what more of them did.
-use Rattle.std.proofs.Common.{◌≡◌, ◌⊎◌, inl, ℕ, ◌+◌, ◌≤◌, Bool, true, false, MatchBool, List, [], ◌∷◌, ◌++◌, length, Option, None, Some, refl, sym, ap, ◌∙◌, subst, arith, append_assoc, append-nil}
+use Rattle.std.proofs.Common.{◌≡◌, ℕ, ◌≤◌, List, [], ◌∷◌, ◌++◌, Option, None, Some, refl, sym, ap, ◌∙◌, subst, arith, append_assoc, append-nil}
 use Rattle.std.specs.Io.KnownBytes.{Appends}
 use Rattle.std.proofs.KnownBytes.{Appends-nil, Appends-trans}
 use Rattle.hal_base.specs.Stops.{LeavesOnly}
 use Rattle.hal_base.proofs.StopLemmas.{not_yet, leaves-then, leaves-weaken}
-use Rattle.script_runs.specs.Language.{Step, Language, IsRun, Speaks, state_after, least_after, FirstFree, text_of, IsOf, AreOnLines}
-use Rattle.script_runs.specs.Stops.{Keeping, IsStop, StopsAmong, IsOnSite}
+use Rattle.script_runs.specs.Language.{Step, IsRun, Speaks, state_after, least_after, FirstFree, text_of}
+use Rattle.script_runs.specs.Stops.{IsStop, StopsAmong, IsOnSite}
 use Rattle.script_runs.specs.TakerView.{TakerView, LeavesTold}
-use Rattle.script_runs.specs.Taken.{Meaning, Began, told_steps, Goes, Went, TookOne, CutOne, Lines, DidLines, CutLines}
+use Rattle.script_runs.specs.Taken.{Meaning, told_steps, Goes, Went}
 use Rattle.script_runs.specs.declared.taker.EngineFault.{EngineFault}
 use Rattle.script_runs.specs.declared.taker.EngineFault.TheVariants.{DiskFault, SayFault, Memory}
 use Rattle.script_runs.proofs.Rooms.{room_none, room_then}
-use Rattle.script_runs.proofs.Runs.{IsRun-append, Speaks-append, state_after-append, least_after-append, text_of-append, FirstFree-append, on_lines-append, on_lines-more, on_lines-again, on_lines-one, stop-front, stop-append, on_site-later, on_site-append, appends_some}
+use Rattle.script_runs.proofs.Runs.{IsRun-append, Speaks-append, state_after-append, least_after-append, text_of-append, FirstFree-append, stop-front, stop-append, on_site-later, on_site-append, appends_some}
 
 told-append : {S : Type 0} (fault : Option EngineFault) (xs ys begun : List (Step S)) → told_steps fault (xs ++ ys) begun ≡ xs ++ told_steps fault ys begun
 told-append None xs ys begun = refl
@@ -78,13 +78,18 @@ goes_then {S} meaning fault a b c xs ys begun part first second =
     (at (state_after start xs) (before ++ text_of xs) (first.tells start state) (appends_some a.said b.said (text_of xs) before said words_are))) in
     record {
       run = λ start is. subst (Run start) (sym all)
-          (IsRun-append meaning.language start a.free xs (ys ++ begun) b.free (subst (Run start) nil (first.run start is)) (first.least start is refl) (second.run (state_after start xs) (first.tells start is)));
+          (IsRun-append meaning.language start a.free xs (ys ++ begun) b.free (subst (Run start) nil (first.run start is)) (first.least start is tt) (second.run (state_after start xs) (first.tells start is)));
       speaks = λ start is. subst (Says start) (sym all) (Speaks-append meaning.language start xs (ys ++ begun) (subst (Says start) nil (first.speaks start is)) (second.speaks (state_after start xs) (first.tells start is)));
       tells = λ start is. second.tells (state_after start xs) (first.tells start is)
           ∙ ap (λ (s : S). Some s) (sym (state_after-append start xs (told_steps fault ys begun)) ∙ ap (λ (l : List (Step S)). state_after start l) (sym (told-append fault xs ys begun)));
-      least = λ start is none. least_after-append meaning.language start a.free xs ys b.free c.free (first.least start is refl) (second.least (state_after start xs) (first.tells start is) none);
-      first = subst First (sym all) (FirstFree-append a.free b.free xs (ys ++ begun) (subst First nil first.first) (λ e. first.still e refl) second.first);
-      still = λ e none. second.still (behind_none xs ys e) none ∙ first.still (before_none xs ys e) refl;
+      least = λ start is kept.
+          let P : List (Step S) → Type 0 = λ l. least_after meaning.language start a.free l ≤ c.free in
+          subst P (sym (told-append fault xs ys begun))
+          (least_after-append meaning.language start a.free xs (told_steps fault ys begun) b.free c.free (first.least start is tt) (second.least (state_after start xs) (first.tells start is) kept));
+      first = subst First (sym all) (FirstFree-append a.free b.free xs (ys ++ begun) (subst First nil first.first) (λ e. first.still e tt) second.first);
+      still = λ e kept.
+          let none : xs ++ told_steps fault ys begun ≡ [] = sym (told-append fault xs ys begun) ∙ e in
+          second.still (behind_none xs (told_steps fault ys begun) none) kept ∙ first.still (before_none xs (told_steps fault ys begun) none) tt;
       began = second.began;
       text = rw (text_whole xs ys part) (Appends-trans a.said b.said c.said (text_of xs) (text_of ys ++ part) said second.text);
       stops = let P : List (Step S) → Type 0 = λ l. LeavesOnly a.moment c.moment a.left_at c.left_at (Left l) in subst P (sym all) stops;

@@ -1,8 +1,8 @@
 -- Lines that are done, and then more lines; and one line, event by event.
-use Rattle.std.proofs.Common.{◌≡◌, ℕ, ◌+◌, Bool, true, false, List, [], ◌∷◌, ◌++◌, length, Option, None, Some, ⊎_elim, refl, sym, ap, ◌∙◌, subst, append_assoc, append-nil}
+use Rattle.std.proofs.Common.{ℕ, ◌+◌, Bool, true, false, List, [], ◌∷◌, ◌++◌, length, Option, None, Some, ⊎_elim, refl, sym, subst, arith, append_assoc, append-nil}
 use Rattle.script_runs.specs.Language.{Step, AreOnLines}
 use Rattle.script_runs.specs.TakerView.{TakerView, LeavesTold}
-use Rattle.script_runs.specs.Taken.{Meaning, BeganOne, Began, Goes, Went, TookOne, CutOne, Lines, DidLines, CutLines}
+use Rattle.script_runs.specs.Taken.{Meaning, Began, Goes, Went, TookOne, CutOne, Lines, DidLines, CutLines}
 use Rattle.script_runs.specs.declared.taker.EngineFault.{EngineFault}
 use Rattle.script_runs.specs.declared.taker.EngineFault.TheVariants.{DiskFault, SayFault, Memory}
 use Rattle.script_runs.proofs.Runs.{on_lines-append, on_lines-more, on_lines-again, on_lines-one}
@@ -53,9 +53,9 @@ cut_none meaning s n a =
             run = none.goes.run;
             speaks = none.goes.speaks;
             tells = none.goes.tells;
-            least = λ start is e. absurd cc;
+            least = λ start is kept. omega arith;
             first = tt;
-            still = λ e f. absurd cc;
+            still = λ e kept. refl;
             began = (refl, refl);
             text = none.goes.text;
             stops = none.goes.stops;

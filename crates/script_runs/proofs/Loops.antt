@@ -1,5 +1,5 @@
 -- What the loops of a script keep.
-use Rattle.std.proofs.Common.{◌≡◌, ℕ, ◌+◌, ◌^◌, ◌<◌, ◌≤◌, IsTrue, List, [], ◌∷◌, ◌++◌, length, Option, None}
+use Rattle.std.proofs.Common.{◌≡◌, ℕ, ◌+◌, ◌^◌, ◌<◌, ◌≤◌, IsTrue, List, [], ◌∷◌, ◌++◌, length, None}
 use Rattle.script_runs.specs.Lines.{parts_of, ended_lines, rest_of}
 use Rattle.script_runs.specs.TakerView.{TakerView, is_ready}
 use Rattle.script_runs.specs.Taken.{Meaning, DidLines}

@@ -1,8 +1,8 @@
 -- Lists of events, one after another: runs, lines, texts and stops join.
-use Rattle.std.proofs.Common.{◌≡◌, ◌⊎◌, ⊎_elim, inl, inr, ℕ, ◌+◌, ◌-◌, ◌≤◌, Bool, true, false, MatchBool, List, [], ◌∷◌, ◌++◌, length, Option, None, Some, refl, sym, ap, ◌∙◌, subst, arith, append_assoc, append-nil}
+use Rattle.std.proofs.Common.{◌≡◌, ⊎_elim, inl, inr, ℕ, ◌+◌, ◌-◌, ◌≤◌, Bool, true, false, MatchBool, List, [], ◌∷◌, ◌++◌, length, Option, None, Some, refl, sym, ap, ◌∙◌, subst, arith, append_assoc, append-nil}
 use Rattle.std.specs.Io.KnownBytes.{Appends}
 use Rattle.script_runs.specs.Language.{Step, Language, IsRun, Speaks, state_after, least_after, FirstFree, text_of, IsOf, AreOnLines}
-use Rattle.script_runs.specs.Stops.{Keeping, StopsIn, IsStop, IsOnSite}
+use Rattle.script_runs.specs.Stops.{Keeping, IsStop, IsOnSite}
 
 IsRun-weaker : {S : Type 0} (language : Language S) (s : S) (m n : ℕ) (es : List (Step S)) → m ≤ n → IsRun language s n es → IsRun language s m es
 IsRun-weaker language s m n [] le run = tt

@@ -1,5 +1,5 @@
 -- What faults of a taker come from, and how it is left.
-use Rattle.std.specs.Prelude.{◌≡◌, ℕ, ◌≤◌, true, false, Result, MatchResult, IfErr, IsErrOf, OnOk, IsTrue, ⊤}
+use Rattle.std.specs.Prelude.{◌≡◌, ◌≤◌, true, false, Result, MatchResult, IfErr, IsErrOf, OnOk, IsTrue, ⊤}
 use Rattle.hal_base.specs.Fault.{Rose, Fails}
 use Rattle.hal_base.specs.Room.{HasSayRoom}
 use Rattle.hal_base.specs.Stops.{LeavesOnly}

@@ -33,7 +33,8 @@ pub record Language (S : Type 0) : Type 1 where
 abbrev pub IsRun : {S : Type 0} → Language S → S → ℕ → List (Step S) → Type 0
 IsRun language start least [] = ⊤
 IsRun language start least (step ∷ steps) =
-    (least ≤ step.event.asked.free) × language.leads start step.event × IsRun language step.event.after (step.event.asked.free - language.need start step.event) steps
+    (least ≤ step.event.asked.free) × language.leads start step.event
+    × IsRun language step.event.after (step.event.asked.free - language.need start step.event) steps
 
 -- and what is said of each is its reply
 abbrev pub Speaks : {S : Type 0} → Language S → S → List (Step S) → Type 0

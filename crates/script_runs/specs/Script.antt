@@ -3,6 +3,7 @@ use Rattle.std.specs.Prelude.{◌≡◌, ◌↔◌, ℕ, ◌+◌, ◌≤◌, ◌
 use Rattle.std.specs.Io.KnownBytes.{Consumes, IsAtEnd}
 use Rattle.std.specs.Str.Lines.{lines}
 use Rattle.hal_base.specs.Fault.{Rose}
+use Rattle.hal_base.specs.declared.source.Source.{Ghosts as Source}
 use Rattle.script_runs.specs.Language.{Step}
 use Rattle.script_runs.specs.Lines.{ended_lines, rest_of}
 use Rattle.script_runs.specs.TakerView.{TakerView, is_ready}
@@ -17,8 +18,9 @@ pub record SourceView : Type 0 where
   pub left : Option (List ℕ)
   pub read_faults : ℕ
 
-abbrev pub source_view : {X : Type 0} → (X → Option (List ℕ)) → (X → ℕ) → X → SourceView
-source_view left faults source = record { left = left source; read_faults = faults source }
+-- by what its trait tells of it
+abbrev pub source_view : {X : Type 0} → Source X → X → SourceView
+source_view tells source = record { left = tells.left source; read_faults = tells.read_faults source }
 
 -- the most bytes that a script may have
 abbrev pub limit : ℕ
@@ -72,7 +74,8 @@ IsLeftAt other view = IsTrue (is_ready view)
 
 -- What was taken of the source, the events of its lines, and at most one more that a fault cut short. Before it some bytes
 -- of a line were read, with its number, and so many more may be.
-pub record RanFrom {S : Type 0} (meaning : Meaning S) (line : List ℕ) (number room : ℕ) (before after : SourceView) (old new : TakerView S) (ending : Ending) : Type 0 where
+pub record RanFrom {S : Type 0} (meaning : Meaning S) (line : List ℕ) (number room : ℕ)
+    (before after : SourceView) (old new : TakerView S) (ending : Ending) : Type 0 where
   pub taken : List ℕ
   pub read : Consumes before.left after.left taken
   -- whether the source was found at its end
@@ -94,7 +97,8 @@ pub record RanFrom {S : Type 0} (meaning : Meaning S) (line : List ℕ) (number 
 
 -- A piece was read, and the lines that ended in it are done: the line that is begun now, its number, and how many more
 -- bytes may be read.
-pub record ReadOn {S : Type 0} (meaning : Meaning S) (begun : List ℕ) (from most : ℕ) (line_now : List ℕ) (number_now room_now : ℕ) (before after : SourceView) (old new : TakerView S) : Type 0 where
+pub record ReadOn {S : Type 0} (meaning : Meaning S) (begun : List ℕ) (from most : ℕ) (line_now : List ℕ) (number_now room_now : ℕ)
+    (before after : SourceView) (old new : TakerView S) : Type 0 where
   pub piece : List ℕ
   pub read : Consumes before.left after.left piece
   pub room : room_now + length piece ≡ most

@@ -21,7 +21,8 @@ IsStop keeping start before (step ∷ steps) blocks words =
 
 -- where the state and what was said are told
 abbrev pub StopsAmong : {S : Type 0} → Keeping S → Option S → Option (List ℕ) → List (Step S) → List (List ℕ) → List ℕ → Type 0
-StopsAmong {S} keeping told said steps blocks words = (start : S) (before : List ℕ) → told ≡ Some start → said ≡ Some before → IsStop keeping start before steps blocks words
+StopsAmong {S} keeping told said steps blocks words =
+    (start : S) (before : List ℕ) → told ≡ Some start → said ≡ Some before → IsStop keeping start before steps blocks words
 
 -- Each event has a moment, never falling, at which a stop leaves nothing but the state before it, with as many free
 -- blocks as it is asked with.

@@ -1,5 +1,5 @@
 -- What a taker did with a line, and with several.
-use Rattle.std.specs.Prelude.{◌≡◌, ◌⊎◌, ℕ, ◌+◌, ◌≤◌, Bool, List, [], ◌∷◌, ◌++◌, length, Option, None, Some, IsSomeAnd, Result, MatchResult}
+use Rattle.std.specs.Prelude.{◌≡◌, ◌⊎◌, ℕ, ◌+◌, ◌≤◌, Bool, List, [], ◌∷◌, ◌++◌, length, Option, None, Some, IsSomeAnd, Result, MatchResult, ⊤}
 use Rattle.std.specs.Io.KnownBytes.{Appends}
 use Rattle.hal_base.specs.Room.{HasSayRoom}
 use Rattle.hal_base.specs.Stops.{LeavesOnly}
@@ -40,6 +40,11 @@ abbrev pub told_steps : {S : Type 0} → Option EngineFault → List (Step S) �
 told_steps (Some SayFault) steps begun = steps ++ begun
 told_steps other steps begun = steps
 
+-- what is told holds still unless the disk failed
+abbrev pub IsKept : Option EngineFault → Type 0
+IsKept (Some DiskFault) = ⊥
+IsKept other = ⊤
+
 -- A room that is told stays told, and is not made smaller. Over one the disk doesn't fail, and no say does where what was
 -- said and this text fit it.
 pub record KeepsRoom {S : Type 0} (old new : TakerView S) (text : List ℕ) : Type 0 where
@@ -51,20 +56,22 @@ abbrev pub LeavesAmong : {S : Type 0} → Keeping S → TakerView S → TakerVie
 LeavesAmong keeping old new steps = LeavesOnly old.moment new.moment old.left_at new.left_at (StopsAmong keeping old.state old.said steps)
 
 -- What events did to a taker, to their end or to a fault that cut one more of them short.
-pub record Goes {S : Type 0} (meaning : Meaning S) (fault : Option EngineFault) (old new : TakerView S) (steps begun : List (Step S)) (part : List ℕ) : Type 0 where
+pub record Goes {S : Type 0} (meaning : Meaning S) (fault : Option EngineFault) (old new : TakerView S)
+    (steps begun : List (Step S)) (part : List ℕ) : Type 0 where
   pub run : (start : S) → old.state ≡ Some start → IsRun meaning.language start old.free (steps ++ begun)
   pub speaks : (start : S) → old.state ≡ Some start → Speaks meaning.language start (steps ++ begun)
   pub tells : (start : S) → old.state ≡ Some start → new.state ≡ Some (state_after start (told_steps fault steps begun))
-  pub least : (start : S) → old.state ≡ Some start → fault ≡ None → least_after meaning.language start old.free steps ≤ new.free
+  pub least : (start : S) → old.state ≡ Some start → IsKept fault → least_after meaning.language start old.free (told_steps fault steps begun) ≤ new.free
   pub first : FirstFree old.free (steps ++ begun)
-  pub still : steps ≡ [] → fault ≡ None → new.free ≡ old.free
+  pub still : told_steps fault steps begun ≡ [] → IsKept fault → new.free ≡ old.free
   pub began : Began fault begun part
   pub text : Appends old.said new.said (text_of steps ++ part)
   pub stops : LeavesAmong meaning.keeping old new (steps ++ begun)
   pub room : KeepsRoom old new (text_of (steps ++ begun))
 
 -- and each event has its moment
-pub record Went {S : Type 0} (meaning : Meaning S) (fault : Option EngineFault) (old new : TakerView S) (steps begun : List (Step S)) (part : List ℕ) : Type 0 where
+pub record Went {S : Type 0} (meaning : Meaning S) (fault : Option EngineFault) (old new : TakerView S)
+    (steps begun : List (Step S)) (part : List ℕ) : Type 0 where
   pub goes : Goes meaning fault old new steps begun part
   pub on_site : (start : S) → old.state ≡ Some start → IsOnSite meaning.keeping new.left_at old.moment new.moment start (steps ++ begun)
 
@@ -76,7 +83,8 @@ pub record TookOne {S : Type 0} (meaning : Meaning S) (script : Option ℕ) (num
   pub goes : Goes meaning None old new (step ∷ []) [] []
 
 -- a fault cut an event of a line short
-pub record CutOne {S : Type 0} (meaning : Meaning S) (script : Option ℕ) (number : ℕ) (line : List ℕ) (old new : TakerView S) (fault : EngineFault) : Type 0 where
+pub record CutOne {S : Type 0} (meaning : Meaning S) (script : Option ℕ) (number : ℕ) (line : List ℕ)
+    (old new : TakerView S) (fault : EngineFault) : Type 0 where
   pub begun : List (Step S)
   pub part : List ℕ
   pub left : List (List ℕ)
@@ -84,7 +92,8 @@ pub record CutOne {S : Type 0} (meaning : Meaning S) (script : Option ℕ) (numb
   pub goes : Goes meaning (Some fault) old new [] begun part
 
 -- the events of a prefix of these lines, numbered from there on, and at most one more that was begun
-pub record Lines {S : Type 0} (meaning : Meaning S) (fault : Option EngineFault) (script : Option ℕ) (all : List (List ℕ)) (number : ℕ) (old new : TakerView S) (left : List (List ℕ)) (steps begun : List (Step S)) (part : List ℕ) : Type 0 where
+pub record Lines {S : Type 0} (meaning : Meaning S) (fault : Option EngineFault) (script : Option ℕ)
+    (all : List (List ℕ)) (number : ℕ) (old new : TakerView S) (left : List (List ℕ)) (steps begun : List (Step S)) (part : List ℕ) : Type 0 where
   pub went : Went meaning fault old new steps begun part
   pub took : AreOnLines script all number (steps ++ begun) left
 
@@ -94,7 +103,8 @@ pub record DidLines {S : Type 0} (meaning : Meaning S) (script : Option ℕ) (al
   pub lines : Lines meaning None script all number old new [] steps [] []
 
 -- some of these lines are done, and then a fault came
-pub record CutLines {S : Type 0} (meaning : Meaning S) (script : Option ℕ) (all : List (List ℕ)) (number : ℕ) (old new : TakerView S) (fault : EngineFault) : Type 0 where
+pub record CutLines {S : Type 0} (meaning : Meaning S) (script : Option ℕ) (all : List (List ℕ)) (number : ℕ)
+    (old new : TakerView S) (fault : EngineFault) : Type 0 where
   pub steps : List (Step S)
   pub begun : List (Step S)
   pub part : List ℕ

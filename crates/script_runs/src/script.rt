@@ -1,5 +1,5 @@
 // Runs a script: reads the source in pieces, cuts the text into lines, and hands them to the taker one by one.
-ghost use Rattle.std.specs.Prelude.{ℕ, ◌&&◌, IsTrue, ◌≡◌, ◌+◌, ◌<◌, ◌≤◌, ◌^◌, ◌++◌, ◌∷◌, [], None, Some, length, take, IfOk, IfErr, IfNone, IfSome, OnOk, OnErr, Ok, min, max};
+ghost use Rattle.std.specs.Prelude.{ℕ, IsTrue, ◌≡◌, ◌+◌, ◌<◌, ◌≤◌, ◌^◌, ◌++◌, ◌∷◌, [], length, take, IfOk, IfNone, IfSome, OnOk, OnErr, Ok};
 ghost use Rattle.std.specs.Io.KnownBytes.{Consumes, IsAtEnd, Keeps};
 ghost use Rattle.std.specs.Str.Lines.{lines, strip_carriage_return};
 ghost use Rattle.hal_base.specs.Fault.{HasCause};
@@ -54,7 +54,8 @@ fn take_byte<L: LineTaker>(
     ensures line { OnOk result (pending.new.line ≡ rest_of (pending.old.line ++ byte ∷ [])) }
     ensures number { OnOk result (pending.new.number ≡ pending.old.number + length (ended_lines (pending.old.line ++ byte ∷ []))) }
     ensures rises { OnOk result (pending.new.number ≤ pending.old.number + 1) }
-    ensures took { TookLines (L.meaning (L.schema taker.old)) (ended_lines (pending.old.line ++ byte ∷ [])) pending.old.number (L.seen taker.old) (L.seen taker.new) result }
+    ensures took { TookLines (L.meaning (L.schema taker.old)) (ended_lines (pending.old.line ++ byte ∷ [])) pending.old.number
+        (L.seen taker.old) (L.seen taker.new) result }
     ensures ends { EndsLines result (L.seen taker.old) (L.seen taker.new) }
 {
     if byte != b'\n' {
@@ -81,7 +82,8 @@ fn take_piece<L: LineTaker>(
     ensures line { OnOk result (pending.new.line ≡ rest_of (pending.old.line ++ piece.now)) }
     ensures number { OnOk result (pending.new.number ≡ pending.old.number + length (ended_lines (pending.old.line ++ piece.now))) }
     ensures rises { OnOk result (pending.new.number ≤ pending.old.number + length piece.now) }
-    ensures took { TookLines (L.meaning (L.schema taker.old)) (ended_lines (pending.old.line ++ piece.now)) pending.old.number (L.seen taker.old) (L.seen taker.new) result }
+    ensures took { TookLines (L.meaning (L.schema taker.old)) (ended_lines (pending.old.line ++ piece.now)) pending.old.number
+        (L.seen taker.old) (L.seen taker.new) result }
     ensures ends { EndsLines result (L.seen taker.old) (L.seen taker.new) }
 {
     for byte in piece {
@@ -154,15 +156,16 @@ fn step<S: Source, L: LineTaker>(
     ensures ready { IfNone result (IsTrue (is_ready (L.seen taker.new))) }
     ensures number { IfNone result (pending.new.number + room.new < 2 ^ 30) }
     ensures nearer { IfNone result (room.new < room.old) }
-    ensures on { IfNone result (ReadOn (L.meaning (L.schema taker.old)) pending.old.line pending.old.number room.old pending.new.line pending.new.number room.new
-        (source_view S.left S.read_faults source.old)
-        (source_view S.left S.read_faults source.new)
+    ensures on { IfNone result (ReadOn (L.meaning (L.schema taker.old)) pending.old.line pending.old.number room.old
+        pending.new.line pending.new.number room.new
+        (source_view S.Source source.old)
+        (source_view S.Source source.new)
         (L.seen taker.old) (L.seen taker.new)) }
     ensures ended { IfSome result (RanFrom (L.meaning (L.schema taker.old)) pending.old.line pending.old.number room.old
-        (source_view S.left S.read_faults source.old)
-        (source_view S.left S.read_faults source.new)
+        (source_view S.Source source.old)
+        (source_view S.Source source.new)
         (L.seen taker.old) (L.seen taker.new)) }
-    ensures later { IsLater (source_view S.left S.read_faults source.old) (source_view S.left S.read_faults source.new) (L.seen taker.old) (L.seen taker.new) }
+    ensures later { IsLater (source_view S.Source source.old) (source_view S.Source source.new) (L.seen taker.old) (L.seen taker.new) }
 {
     let mut buffer = [0u8; PIECE];
     let most = PIECE.min(*room as usize);
@@ -187,10 +190,10 @@ fn read_past<S: Source, L: LineTaker>(source: &mut S, taker: &mut L, pending: &P
     ensures schema { L.schema taker.new ≡ L.schema taker.old }
     ensures steady { L.steady taker.old taker.new }
     ensures ended { RanFrom (L.meaning (L.schema taker.old)) pending.now.line pending.now.number 0
-        (source_view S.left S.read_faults source.old)
-        (source_view S.left S.read_faults source.new)
+        (source_view S.Source source.old)
+        (source_view S.Source source.new)
         (L.seen taker.old) (L.seen taker.new) result }
-    ensures later { IsLater (source_view S.left S.read_faults source.old) (source_view S.left S.read_faults source.new) (L.seen taker.old) (L.seen taker.new) }
+    ensures later { IsLater (source_view S.Source source.old) (source_view S.Source source.new) (L.seen taker.old) (L.seen taker.new) }
 {
     let mut buffer = [0u8];
     match read_piece(source, &mut buffer, 1) {
@@ -207,10 +210,10 @@ pub fn run_script<S: Source, L: LineTaker>(alloc: Global, source: &mut S, taker:
     ensures schema { L.schema taker.new ≡ L.schema taker.old }
     ensures steady { L.steady taker.old taker.new }
     ensures ran { RanScript (L.meaning (L.schema taker.old))
-        (source_view S.left S.read_faults source.old)
-        (source_view S.left S.read_faults source.new)
+        (source_view S.Source source.old)
+        (source_view S.Source source.new)
         (L.seen taker.old) (L.seen taker.new) result }
-    ensures later { IsLater (source_view S.left S.read_faults source.old) (source_view S.left S.read_faults source.new) (L.seen taker.old) (L.seen taker.new) }
+    ensures later { IsLater (source_view S.Source source.old) (source_view S.Source source.new) (L.seen taker.old) (L.seen taker.new) }
 {
     let mut pending = Pending {
         line: Bytes::new(alloc),

@@ -1,4 +1,4 @@
-use Rattle.std.proofs.Common.{rules, ◌≡◌, map, Some, None, refl}
+use Rattle.std.proofs.Common.{rules, ◌≡◌, map, Some, None}
 use Rattle.std.specs.String.{string_bytes}
 use Rattle.hal_desk.specs.Words.{command_of}
 use Rattle.hal_desk.proofs.Commands.{nothing_done, ends_well, same_did, same_well}

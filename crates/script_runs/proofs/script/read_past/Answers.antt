@@ -1,4 +1,4 @@
-use Rattle.std.proofs.Common.{◌≡◌, [], length, take, refl, arith}
+use Rattle.std.proofs.Common.{◌≡◌, [], length, take, arith}
 use Rattle.std.proofs.lemmas.List.{length-take-le}
 use Rattle.std.proofs.KnownBytes.{Consumes-nil, Consumes-kept}
 use Rattle.script_runs.proofs.Endings.{ran_read_fault, ran_too_long}

@@ -32,7 +32,7 @@ pieces-init g c =
         is_ready = c.requires;
         unended = rw c.new.ensures refl;
         numbers = omega arith;
-        so_far = rw c.new.ensures (read_none (t.meaning (t.schema c.args.taker.now)) limit (source_view s.left s.read_faults c.args.source.now) (t.seen c.args.taker.now));
+        so_far = rw c.new.ensures (read_none (t.meaning (t.schema c.args.taker.now)) limit (source_view s c.args.source.now) (t.seen c.args.taker.now));
         later = record { read = omega arith; say = omega arith; disk = omega arith };
       },
       refl,

@@ -1,5 +1,4 @@
-use Rattle.std.proofs.Common.{◌≡◌, List, [], ap, ◌∙◌, rules}
-use Rattle.std.specs.Str.Lines.{lines}
+use Rattle.std.proofs.Common.{◌≡◌, [], rules}
 use Rattle.script_runs.proofs.Joined.{did_none}
 use Rattle.script_runs.proofs.script.take_last.Goals as goal
 
