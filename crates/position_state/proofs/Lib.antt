@@ -1,1 +1,4 @@
 pub mod KeepLaws
+pub mod Segments
+pub mod Sorting
+pub mod Steps

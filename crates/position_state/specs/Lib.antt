@@ -1,3 +1,4 @@
+pub mod Entries
 pub mod Keep
 pub mod KeepLaws
 pub mod Lawful

@@ -9,6 +9,7 @@ use Rattle.hal_schema.specs.declared.row.Row.{Row}
 use Rattle.hal_schema.specs.declared.schema.Schema.{Schema}
 use Rattle.hal_schema.specs.SegType.{search_bytes}
 use Rattle.hal_schema.specs.Entry.{entries_of}
+use Rattle.hal_schema.specs.Forest.{is_forest}
 use Rattle.position_state.specs.declared.session.Anchor.{Anchor}
 use Rattle.position_state.specs.declared.session.Anchor.TheVariants.{Front, At}
 use Rattle.position_state.specs.declared.spot.Spot.{Spot}
@@ -23,6 +24,10 @@ pub record WalkView : Type 0 where
   pub faults : ℕ
   pub looks : ℕ
   pub live : Bool
+
+-- where the list is told, it is a forest under the schema
+abbrev pub tells_forest : WalkView → Bool
+tells_forest seen = option_map_or (is_forest seen.schema) seen.forest true
 
 -- one look: nothing is changed, and it is counted
 pub record Looked (failed : Type 0) (old new : WalkView) : Type 0 where

@@ -3,18 +3,30 @@
 //! - `session`: anchors and sessions, and their copies;
 //! - `laws`: what the definitions of views and sessions keep;
 //! - `spot`: what a look shows of a segment, and the changes that calls make;
-//! - `walk`: `Walk`, looks at a view, whatever it stands on.
+//! - `walk`: `Walk`, looks at a view, whatever it stands on;
+//! - `list_walk`: looks at a list of rows in memory, over `list_view` (its views), `list_entries` (the entries of its
+//!   indexes), `path` and `segment` (paths and types of rows) and `elements` (what is found in a view).
 //!
 //! `specs/View.antt` has views, `specs/Keep.antt` what a change leaves of a session, `specs/Lawful.antt` what a session and
 //! a change must be, by names.
 #![tactic(auto)]
 
+mod elements;
 mod laws;
+mod list_entries;
+mod list_view;
+mod list_walk;
+mod path;
+mod segment;
 mod session;
 mod spot;
 mod walk;
 
 pub use laws::{anchors_stand, anchors_stay, sessions_stay};
+pub use list_walk::ListWalk;
 pub use session::{Anchor, Session};
 pub use spot::{Change, Spot};
 pub use walk::{Walk, WalkFault};
+
+#[cfg(test)]
+mod tests;

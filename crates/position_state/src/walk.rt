@@ -1,7 +1,7 @@
 // Looks at a view.
 ghost use Rattle.std.specs.Prelude.{◌≡◌, ◌∷◌, [], ℕ, Option, None, Some, length, IfOk, IfSome, IsErrOf, IsTrue};
 ghost use Rattle.hal_base.specs.Fault.{Fails};
-ghost use Rattle.position_state.specs.Looks.{WalkView, Looked, Shows, Names, first_behind, last_before, past, found_at, root_of_key, above, of_entry, stands_in, has_search};
+ghost use Rattle.position_state.specs.Looks.{WalkView, tells_forest, Looked, Shows, Names, first_behind, last_before, past, found_at, root_of_key, above, of_entry, stands_in, has_search};
 
 use crate::{Anchor, Spot};
 use hal_base::{Ilk, Live, Memory};
@@ -87,4 +87,6 @@ pub trait Walk: Live {
         ensures { result ≡ (seen self.now).free };
 
     ghost alive: { (walk : Self) → (seen walk).live ≡ Self.live walk };
+
+    ghost keeps_forest: { (walk : Self) → IsTrue (tells_forest (seen walk)) };
 }
