@@ -37,7 +37,7 @@ drop_rows zero list = refl
 drop_rows (suc n) [] = refl
 drop_rows (suc n) (p ∷ list) = drop_rows n list
 
-append_rows : (xs ys : List Placed) → rows_of (xs ++ ys) ≡ rows_of xs ++ rows_of ys
+pub append_rows : (xs ys : List Placed) → rows_of (xs ++ ys) ≡ rows_of xs ++ rows_of ys
 append_rows [] ys = refl
 append_rows (x ∷ xs) ys = ap (λ l. x.row ∷ l) (append_rows xs ys)
 

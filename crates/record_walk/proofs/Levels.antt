@@ -21,7 +21,7 @@ Deepens types = (above code : ℕ) → parent_code types code ≡ Some above →
 abbrev pub AtLevel : List SegType → ℕ → List ℕ → Type 0
 AtLevel types level codes = AllByRecursion (λ c. level_of types c ≡ level) codes
 
-child_is : (parent : Option ℕ) (code : ℕ) → option_map_or (λ p. p == code) parent false ≡ true → parent ≡ Some code
+pub child_is : (parent : Option ℕ) (code : ℕ) → option_map_or (λ p. p == code) parent false ≡ true → parent ≡ Some code
 child_is None code h = absurd (false≢true h)
 child_is (Some p) code h = ap (λ (n : ℕ). Some n) (eqb-true p code h)
 
@@ -113,7 +113,7 @@ starts_less types n m (p ∷ list) h le = let l = leb-true (row_level types p.ro
 
 -- ---- roots
 
-pub ones : Chains → List ℕ
+unfoldable pub ones : Chains → List ℕ
 ones no_chain = []
 ones (chain twins more) = 1 ∷ ones more
 

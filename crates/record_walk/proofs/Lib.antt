@@ -9,3 +9,4 @@ pub mod OnLists
 pub mod ByName
 pub mod RootRows
 pub mod KeptRecords
+pub mod ParentsFirst

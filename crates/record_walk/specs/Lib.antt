@@ -7,4 +7,5 @@ pub mod Spans
 pub mod Named
 pub mod Roots
 pub mod Records
+pub mod Parents
 pub mod Examples

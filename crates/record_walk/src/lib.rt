@@ -18,6 +18,7 @@
 mod examples;
 mod listed;
 mod named;
+mod parents;
 mod records;
 mod root_rows;
 mod walk;
@@ -28,6 +29,7 @@ pub use listed::{
     replaced_content_is_listed,
 };
 pub use named::{homes_are_names, inserted_between, new_twins_are_inserted};
+pub use parents::parents_stand_first;
 pub use records::{cuts_keep_records, new_segments_keep_records, replaced_content_keeps_records};
 pub use root_rows::{homes_are_listed, rows_come_and_go, seen_follows};
 pub use walk::{

@@ -21,6 +21,7 @@ fn the_laws_can_be_called(_rt: HostRuntime) {
     rows_come_and_go();
     homes_are_listed();
     inserted_between();
+    parents_stand_first();
     new_segments_keep_records();
     cuts_keep_records();
     replaced_content_keeps_records();
