@@ -1,11 +1,10 @@
 // A set that stays open from call to call, beside the shelf that it stands over.
-ghost use Rattle.std.specs.Prelude.{◌≡◌, ◌≤◌};
+ghost use Rattle.std.specs.Prelude.{◌≡◌, IsTrue};
 ghost use Rattle.keyed_sets.specs.Calls.{IsOpened};
 ghost use Rattle.keyed_sets.specs.OneProof.{IsOpened-prop};
 
-use hal_base::{PageFault, SetId, StoreFault};
+use hal_base::{PageFault, SetId, Shelf, StoreFault};
 use keyed_sets::KeyedSet;
-use memory_shelf::QuietShelf;
 use std::alloc::Global;
 
 const SET: SetId = SetId {
@@ -17,39 +16,45 @@ const SET: SetId = SetId {
 /// The bytes of a body: 40 rows fill a page.
 const BODY: usize = 98;
 
-/// A shelf in memory, and a set of rows in one of its data sets, which stands for its pages between any two calls.
+/// A shelf, and a set of rows in one of its data sets, which stands for its pages between any two calls.
 /// Keys and bodies are numbers; a body's number is followed by blanks.
 #[derive(Drop)]
-pub struct OpenSet {
-    shelf: QuietShelf,
+pub struct OpenSet<H: Shelf + Drop> {
+    shelf: H,
     set: KeyedSet,
-    ghost opened: { IsOpened set (QuietShelf.Shelf.seen shelf) } by { IsOpened-prop set (QuietShelf.Shelf.seen shelf) },
+    ghost opened: { IsOpened set (H.seen shelf) } by { IsOpened-prop set (H.seen shelf) },
     ghost shape: { set.shape ≡ record { key = 2; body = 98 } },
 }
 
-impl OpenSet {
-    /// An empty set over so many free blocks.
-    pub fn new(alloc: Global, blocks: u32) -> Result<OpenSet, StoreFault>
-        requires { blocks ≤ 65536 }
+impl<H: Shelf + Drop> OpenSet<H> {
+    /// The set of the rows that stand on the shelf.
+    pub fn new(alloc: Global, mut shelf: H) -> Result<OpenSet<H>, StoreFault>
+        requires { IsTrue (H.seen shelf).live }
     {
-        let mut shelf = QuietShelf::new(alloc, blocks);
         let set = KeyedSet::open(alloc, &mut shelf, SET, 2, BODY as u16)?;
         Ok(OpenSet { shelf, set })
     }
 
-    pub fn put(&mut self, key: u16, number: u32) -> Result<(), PageFault> {
+    pub fn put(&mut self, key: u16, number: u32) -> Result<(), PageFault>
+        requires live { IsTrue (H.seen self.old.shelf).live }
+        requires takes { IsTrue ((H.seen self.old.shelf).takes self.old.set.set 2) }
+    {
         let mut body = [b' '; BODY];
         body[..4].copy_from_slice(&number.to_be_bytes());
         self.set.put(&mut self.shelf, &key.to_be_bytes(), &body)
     }
 
-    pub fn get(&mut self, key: u16) -> Result<Option<u32>, PageFault> {
+    pub fn get(&mut self, key: u16) -> Result<Option<u32>, PageFault>
+        requires { IsTrue (H.seen self.old.shelf).live }
+    {
         let found = self.set.get(&mut self.shelf, &key.to_be_bytes())?;
         Ok(found.map(|body| number_of(body.as_slice())))
     }
 
     /// The first key above this one, or the first of all, with the number beside it.
-    pub fn next_after(&mut self, key: Option<u16>) -> Result<Option<(u16, u32)>, PageFault> {
+    pub fn next_after(&mut self, key: Option<u16>) -> Result<Option<(u16, u32)>, PageFault>
+        requires { IsTrue (H.seen self.old.shelf).live }
+    {
         let row = match key {
             Some(key) => self
                 .set
@@ -62,7 +67,9 @@ impl OpenSet {
         )))
     }
 
-    pub fn remove(&mut self, key: u16) -> Result<bool, PageFault> {
+    pub fn remove(&mut self, key: u16) -> Result<bool, PageFault>
+        requires { IsTrue (H.seen self.old.shelf).live }
+    {
         self.set.remove(&mut self.shelf, &key.to_be_bytes())
     }
 }

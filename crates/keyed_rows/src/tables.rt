@@ -1,10 +1,11 @@
 // A set that is kept open across calls, beside std's map.
 use crate::OpenSet;
+use memory_shelf::QuietShelf;
 use std::collections::BTreeMap;
 use std::test::Fail;
 
 /// Whether the rows of the set, from the first to the last, are the entries of the map.
-fn is_map(set: &mut OpenSet, map: &BTreeMap<u16, u32>) -> Result<bool, Fail> {
+fn is_map(set: &mut OpenSet<QuietShelf>, map: &BTreeMap<u16, u32>) -> Result<bool, Fail> {
     let mut last = None;
     for (key, number) in map {
         let row = set.next_after(last).ok().ok_or("next")?;
@@ -19,7 +20,7 @@ fn is_map(set: &mut OpenSet, map: &BTreeMap<u16, u32>) -> Result<bool, Fail> {
 #[test]
 fn a_set_kept_open_is_the_map_after_each_put(rt: HostRuntime) -> Result<(), Fail> {
     for step in [1, 599, 233] {
-        let Ok(mut set) = OpenSet::new(rt.alloc(), 64) else {
+        let Ok(mut set) = OpenSet::new(rt.alloc(), QuietShelf::new(rt.alloc(), 64)) else {
             return Err("opened".into());
         };
         let mut map = BTreeMap::new(rt.alloc());
@@ -43,7 +44,7 @@ fn a_set_kept_open_is_the_map_after_each_put(rt: HostRuntime) -> Result<(), Fail
 
 #[test]
 fn rows_go_as_they_go_from_the_map(rt: HostRuntime) -> Result<(), Fail> {
-    let Ok(mut set) = OpenSet::new(rt.alloc(), 16) else {
+    let Ok(mut set) = OpenSet::new(rt.alloc(), QuietShelf::new(rt.alloc(), 16)) else {
         return Err("opened".into());
     };
     let mut map = BTreeMap::new(rt.alloc());
