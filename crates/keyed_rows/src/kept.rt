@@ -61,10 +61,7 @@ impl<H: Shelf + Drop> OpenSet<H> {
                 .next_after(&mut self.shelf, Some(&key.to_be_bytes()))?,
             None => self.set.next_after(&mut self.shelf, None)?,
         };
-        Ok(row.map(|row| (
-            number_of(row.0.as_slice()) as u16,
-            number_of(row.1.as_slice()),
-        )))
+        Ok(row.map(|row| (key_in(row.0.as_slice()), number_of(row.1.as_slice()))))
     }
 
     pub fn remove(&mut self, key: u16) -> Result<bool, PageFault>
@@ -80,4 +77,12 @@ fn number_of(bytes: &[u8]) -> u32 {
         .iter()
         .take(4)
         .fold(0, |number: u32, byte| (number << 8) | u32::from(*byte))
+}
+
+/// The key that these two bytes are.
+fn key_in(bytes: &[u8]) -> u16 {
+    bytes
+        .iter()
+        .take(2)
+        .fold(0, |key: u16, byte| (key << 8) | u16::from(*byte))
 }
