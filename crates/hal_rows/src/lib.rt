@@ -1,5 +1,9 @@
 //! Tests that join crates which don't stand on each other: whole commands over sources and sites in memory, and the
 //! rules of definitions.
+//!
+//! - `first_path`: a script over one list;
+//! - `commands`: the table of commands, and `define`;
+//! - `definitions`, `schema`: definitions, sound and broken, and the rules that they break.
 #![tactic(auto)]
 
 ghost use Rattle.std.specs.Prelude.{◌≡◌, ◌≤◌, ◌⊎◌, IfOk, None, map};

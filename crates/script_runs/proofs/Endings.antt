@@ -9,7 +9,7 @@ use Rattle.script_runs.specs.Language.{Step}
 use Rattle.script_runs.specs.Faults.{IsCaused, IsLeftBy}
 use Rattle.script_runs.specs.TakerView.{TakerView, is_ready}
 use Rattle.script_runs.specs.Taken.{Meaning, DidLines, CutLines, Lines}
-use Rattle.script_runs.specs.Script.{SourceView, RanFrom, ReadOn, IsLater, HasItsCause, IsLeftAt, AllDone, due_lines, ending_of, fault_of}
+use Rattle.script_runs.specs.Script.{SourceView, RanFrom, ReadOn, IsLater, HasItsCause, HasItsEnd, IsLeftAt, AllDone, due_lines, ending_of, fault_of}
 use Rattle.script_runs.specs.declared.taker.EngineFault.{EngineFault}
 use Rattle.script_runs.specs.declared.taker.EngineFault.TheVariants as engine
 use Rattle.script_runs.specs.declared.ending.Ending.{Ending}
@@ -45,10 +45,10 @@ cut_all engine.DiskFault left = tt
 cut_all engine.SayFault left = tt
 cut_all engine.Memory left = tt
 
-cut_not_done : (fault : EngineFault) → ending_of fault ≡ Done → ⊥
-cut_not_done engine.DiskFault e = cc
-cut_not_done engine.SayFault e = cc
-cut_not_done engine.Memory e = cc
+cut_found : (fault : EngineFault) (whole : Bool) → HasItsEnd (ending_of fault) whole
+cut_found engine.DiskFault whole = tt
+cut_found engine.SayFault whole = tt
+cut_found engine.Memory whole = tt
 
 cut_not_long : (fault : EngineFault) → ending_of fault ≡ TooLong → ⊥
 cut_not_long engine.DiskFault e = cc
@@ -70,7 +70,7 @@ ran_cut {S} meaning fault begun from room before after old new taken read within
   lines = rw (fault_back fault, cut_due fault (length begun + room) (begun ++ taken)) cut.lines;
   all_done = cut_all fault cut.left;
   at_end = λ e. absurd cc;
-  done = λ e. absurd (cut_not_done fault e);
+  found = cut_found fault false;
   within = omega (arith, within);
   past_limit = (λ e. absurd (cut_not_long fault e), λ e. absurd (omega (arith, within, e)));
   cause = cut_cause fault before after old new caused;
@@ -92,7 +92,7 @@ ran_cut_last {S} meaning fault begun from room before after old new read end cut
   lines = rw (fault_back fault, append-nil begun) cut.lines;
   all_done = cut_all fault cut.left;
   at_end = λ e. end;
-  done = λ e. refl;
+  found = cut_found fault true;
   within = omega arith;
   past_limit = (λ e. absurd (cut_not_long fault e), λ e. absurd (omega (arith, e)));
   cause = cut_cause fault before after old new caused;
@@ -114,7 +114,7 @@ ran_done meaning begun from room before after old new read end did left = record
   lines = rw (append-nil begun) did.lines;
   all_done = refl;
   at_end = λ e. end;
-  done = λ e. refl;
+  found = refl;
   within = omega arith;
   past_limit = (λ e. absurd cc, λ e. absurd (omega (arith, e)));
   cause = tt;
@@ -143,7 +143,7 @@ ran_read_fault meaning begun from room before after taker unended read rose left
   lines = no_lines meaning (ended_lines (begun ++ [])) from taker (ap (λ (l : List ℕ). ended_lines l) (append-nil begun) ∙ none_ended begun unended);
   all_done = refl;
   at_end = λ e. absurd cc;
-  done = λ e. absurd cc;
+  found = refl;
   within = omega arith;
   past_limit = (λ e. absurd cc, λ e. absurd (omega (arith, e)));
   cause = rose;
@@ -174,7 +174,7 @@ ran_too_long meaning begun from before after taker taken unended read one left =
   lines = no_lines meaning (ended_lines (take (length begun + 0) (begun ++ taken))) from taker (ap (λ (l : List ℕ). ended_lines l) (only_begun begun taken) ∙ none_ended begun unended);
   all_done = refl;
   at_end = λ e. absurd cc;
-  done = λ e. absurd cc;
+  found = refl;
   within = omega (arith, one);
   past_limit = (λ e. omega (arith, one), λ e. refl);
   cause = tt;
@@ -228,7 +228,7 @@ ran_on {S} meaning begun from room rest number room_now before mid after old vie
       lines = rw due (lines_on meaning (fault_of ending) on.did on.number ran.lines);
       all_done = ran.all_done;
       at_end = ran.at_end;
-      done = ran.done;
+      found = ran.found;
       within = omega (arith, length-append on.piece ran.taken, on.room, ran.within);
       past_limit = (λ e. omega (arith, length-append on.piece ran.taken, on.room, ran.past_limit.0 e), λ e. ran.past_limit.1 (omega (arith, length-append on.piece ran.taken, on.room, e)));
       cause = cause_on ending before mid after old view new later ran.cause;

@@ -67,6 +67,14 @@ HasItsCause SayFault before after old new = Rose old.say_faults new.say_faults
 HasItsCause DiskFault before after old new = Rose old.disk_faults new.disk_faults
 HasItsCause other before after old new = Unit {0}
 
+-- whether the source was found at its end: status 0 comes only there, and a fault of a read or a byte past the limit
+-- comes before it
+abbrev pub HasItsEnd : Ending → Bool → Type 0
+HasItsEnd Done whole = whole ≡ true
+HasItsEnd ReadFault whole = whole ≡ false
+HasItsEnd TooLong whole = whole ≡ false
+HasItsEnd other whole = Unit {0}
+
 -- after a fault of the disk the taker may be used no more; after any other ending it is ready for another script
 abbrev pub IsLeftAt : {S : Type 0} → Ending → TakerView S → Type 0
 IsLeftAt DiskFault view = view.live ≡ false
@@ -86,9 +94,8 @@ pub record RanFrom {S : Type 0} (meaning : Meaning S) (line : List ℕ) (number 
   pub left : List (List ℕ)
   pub lines : Lines meaning (fault_of ending) None (due_lines whole ending (length line + room) (line ++ taken)) number old new left steps begun part
   pub all_done : AllDone ending left
-  -- status 0 comes only at the end of the source
   pub at_end : whole ≡ true → IsAtEnd after.left
-  pub done : ending ≡ Done → whole ≡ true
+  pub found : HasItsEnd ending whole
   -- no more than one byte past the limit is read, and that ends the run
   pub within : length taken ≤ room + 1
   pub past_limit : (ending ≡ TooLong) ↔ (length taken ≡ room + 1)
