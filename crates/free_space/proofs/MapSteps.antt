@@ -275,7 +275,7 @@ on_grown o count [] p = on_empty o count p
 on_grown o count (tiles ∷ old) zero = refl
 on_grown o count (tiles ∷ old) (suc p) = on_grown o count old p
 
-grown_at : (set : SetId) (old : List (List Tile)) (count x : ℕ) → cell_at set (grown count old) x ≡ cell_at set old x
+pub grown_at : (set : SetId) (old : List (List Tile)) (count x : ℕ) → cell_at set (grown count old) x ≡ cell_at set old x
 grown_at set old count x = same_at set old (grown count old) x (λ letter. on_grown (offset_at x) count old (page_at x))
 
 pub adds : (shapes : List Shape) (set : SetId) (cell : Cell) (at n off len room : ℕ) (before after : List Tile) (old new : List (List Tile)) → at ≡ letter_index set.letter * 2 ^ 28 + n * 2 ^ 12 + off

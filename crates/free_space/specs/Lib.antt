@@ -7,4 +7,6 @@ pub mod Changes
 pub mod Placing
 pub mod Store
 pub mod Opening
+pub mod Side
+pub mod SideCalls
 pub mod OneProof

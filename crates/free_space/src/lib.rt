@@ -26,9 +26,13 @@ mod open;
 mod page;
 mod place;
 mod setting;
+mod side;
+mod side_cells;
+mod side_room;
 mod space;
 mod store;
 mod tiles;
 
 pub use laws::{no_cell_is_at_zero, others_leave_a_store_open};
+pub use side::SideCells;
 pub use store::CellStore;
