@@ -9,3 +9,4 @@ pub mod MapSteps
 pub mod PageSteps
 pub mod PlaceSteps
 pub mod SideSteps
+pub mod Listings

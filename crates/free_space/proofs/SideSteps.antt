@@ -1,10 +1,10 @@
 -- A change in the data set of one letter, seen as a change of the side.
-use Rattle.std.proofs.Common.{◌≡◌, ◌≢◌, ℕ, zero, suc, add-one, ◌&&◌, nat_le, [], ◌∷◌, ◌+◌, ◌-◌, ◌/◌, ◌^◌, ◌<◌, ◌≤◌, inl, inr, Bool, true, false, cond, nat_lt, Result, Ok, Err, List, length, get_or, Option, Some, None, refl, sym, ap, subst, ◌∙◌, arith}
+use Rattle.std.proofs.Common.{◌≡◌, ◌≢◌, ℕ, zero, suc, add-one, ◌&&◌, nat_le, [], ◌∷◌, ◌+◌, ◌-◌, ◌<◌, ◌≤◌, inl, inr, Bool, true, false, cond, nat_lt, Result, Ok, Err, List, length, All, get_or, Option, Some, None, refl, sym, ap, subst, ◌∙◌, arith}
 use Rattle.std.specs.Prelude.{slice_get, slice_set, IsSome}
 use Rattle.std.specs.Option.{option_map, is_some}
-use Rattle.std.specs.Result.{OnOk, OnErr, IfOk, MatchResult}
+use Rattle.std.specs.Result.{OnOk, IfOk, MatchResult}
 use Rattle.std.proofs.lemmas.Bool.{cases_eq, cases_lt, lt-ltb, le-ltb, leb-true, and_parts}
-use Rattle.std.proofs.lemmas.List.{length-set, set-get_or}
+use Rattle.std.proofs.lemmas.List.{length-set, length-map, length-drop, set-get_or}
 use Rattle.std.proofs.lemmas.Option.{slice_get_within, slice_get_read, get_or_from_slice_get}
 use Rattle.hal_base.specs.declared.place.Shape.{Shape}
 use Rattle.hal_base.specs.declared.pages.SetId.{SetId}
@@ -12,17 +12,20 @@ use Rattle.hal_base.specs.Pages.{SameOthers}
 use Rattle.hal_base.specs.ShelfCalls.{ShelfView, SameShelf, ChangedIn, GrownBy, OnlyChanges, OnlyGrows}
 use Rattle.segment_blocks.specs.declared.tile.Cell.{Cell}
 use Rattle.segment_blocks.specs.declared.tile.Tile.{Tile}
+use Rattle.segment_blocks.specs.TilesOf.{tiles_of}
 use Rattle.free_space.specs.declared.side.SideCells.{SideCells}
 use Rattle.free_space.specs.declared.store.CellStore.{CellStore}
-use Rattle.free_space.specs.Address.{letter_index}
-use Rattle.free_space.specs.Map.{layout_of, cell_at, SameElsewhere, Adds, Alters, Drops}
+use Rattle.free_space.specs.Address.{letter_index, page_at}
+use Rattle.free_space.specs.Map.{layout_of, cell_at, Adds, Alters, Drops}
 use Rattle.free_space.specs.Changes.{GivesBack}
 use Rattle.free_space.specs.Placing.{grown, Places, Appends}
-use Rattle.free_space.specs.Store.{StandsFor, StaysOpen, Becomes, Relays, added, PlacesAt, AppendsAt, GetsEmpty, IsSaid, HoldsAt, StandsAt}
+use Rattle.free_space.specs.Store.{Knows, StandsFor, StaysOpen, Becomes, Relays, added, PlacesAt, AppendsAt, GetsEmpty, IsSaid, HoldsAt, StandsAt}
 use Rattle.free_space.specs.Side.{IsFirst, lettered, are_letters, place_at, place_of, cell_in, side_cell}
-use Rattle.free_space.specs.SideCalls.{IsLetter, StandsForSide, StaysOpenOn, IsTold, Turns, SameCells, Finds, Holds, Lays, PlacesCell, AppendsCell, IsSaidOf, set_of, pages_upto}
-use Rattle.free_space.proofs.Told.{some_is, set_same, set_other, stands_same}
-use Rattle.free_space.proofs.MapSteps.{stood_at, grown_at}
+use Rattle.free_space.specs.SideCalls.{IsLetter, StandsForSide, StaysOpenOn, IsTold, Turns, SameCells, Finds, Holds, Lays, PlacesCell, AppendsCell, IsSaidOf, set_of, cells_of, pages_upto}
+use Rattle.free_space.specs.SideLaws.{IsApart, StaysBeside}
+use Rattle.free_space.proofs.Told.{set_same, set_other, stands_same, page_of_layout}
+use Rattle.free_space.proofs.Listings.{ArePages}
+use Rattle.free_space.proofs.MapSteps.{stood_at, grown_at, not_zero}
 
 -- ---- the data sets of letters
 
@@ -397,3 +400,54 @@ pub got : {X : Type 0} (xs : List X) (k : ℕ) → k < length xs → (x : X) × 
 got [] k below = absurd (omega (arith, below))
 got (x ∷ xs) zero below = (x, refl)
 got (x ∷ xs) (suc k) below = got xs k (omega (arith, below))
+
+-- ---- laws
+
+-- the store of a place
+store_of : (side : SideCells) (shelf : ShelfView) (place : ℕ) → StandsForSide side shelf → place < 10 → (store : CellStore) × IsLetter side place store shelf
+store_of side shelf place stands below =
+    let there = got side.stores.items place (omega (arith, below, stands.ten)) in
+    (there.0, stands.each place there.0 there.1)
+
+pub beside : (side : SideCells) (set : SetId) (old new : ShelfView) → StandsForSide side old → IsApart side set → LeavesOthers set old new → StaysBeside side old new
+beside side set old new stands apart leaves = record {
+  stands = side_beside side set old new stands apart leaves;
+  told = λ was.
+      let here : lettered side.first 0 ≡ side.first = ap (λ (l : ℕ). record side.first { letter = l }) none in
+      let same : new.pages side.first ≡ old.pages side.first = leaves.pages side.first (λ is. apart 0 (omega arith) (here ∙ is)) in
+      ap (λ (o : Option (List (List ℕ))). is_some o) same ∙ was;
+  cells = λ at. cell_beside side.first side.shapes old new at (λ below. leaves.pages (lettered side.first (place_at at)) (apart (place_at at) below));
+}
+  where
+    none : side.first.letter + 0 ≡ side.first.letter
+    none = omega arith
+
+came_in : (shapes : List Shape) (set : SetId) (o : Option (List (List ℕ))) (x : ℕ) (cell : Cell) → cell_in shapes set o x ≡ Some cell → (pages : List (List ℕ)) × (o ≡ Some pages) × (cell_at set (layout_of shapes pages) x ≡ Some cell)
+came_in shapes set None x cell is = absurd (let wrong : None ≡ Some cell = is in cc)
+came_in shapes set (Some pages) x cell is = (pages, refl, is)
+
+pub not_at_zero : (side : SideCells) (shelf : ShelfView) (at : ℕ) (cell : Cell) → StandsForSide side shelf → cells_of side shelf at ≡ Some cell → at ≢ 0
+not_at_zero side shelf at cell stands is =
+    let place = place_at at in
+    let below = place_below side.first side.shapes shelf at cell is in
+    let (pages, told, there) = came_in side.shapes (lettered side.first place) (shelf.pages (lettered side.first place)) at cell (sym (side_is side.first side.shapes shelf at place refl below) ∙ is) in
+    let (store, l) = store_of side shelf place stands below in
+    let told_there : shelf.pages store.set ≡ Some pages = ap shelf.pages l.set ∙ told in
+    not_zero store.shapes store.set (layout_of store.shapes pages) at cell
+    (λ tiles among. let (block, found, t) = page_of_layout store.shapes store.spaces.items pages (page_at at) tiles (l.stands.told pages told_there) among in t.tiled)
+    (sym (same_in side place store shelf pages at l) ∙ there)
+
+pub pages_of_letter : (side : SideCells) (shelf : ShelfView) (place : ℕ) (pages : List (List ℕ)) → StandsForSide side shelf → place < 10 → shelf.pages (lettered side.first place) ≡ Some pages → All (λ page. length page ≡ 4096) pages
+    → ArePages side.shapes (layout_of side.shapes pages) × (length (layout_of side.shapes pages) ≡ length pages)
+pages_of_letter side shelf place pages stands below told whole =
+    let (store, l) = store_of side shelf place stands below in
+    let knows : Knows store.shapes store.spaces.items pages = l.stands.told pages (ap shelf.pages l.set ∙ told) in
+    let mine : Knows side.shapes store.spaces.items pages = subst (λ (s : List Shape). Knows s store.spaces.items pages) l.shapes knows in (
+      record {
+        tiled = λ k tiles is.
+            let (block, among, t) = page_of_layout side.shapes store.spaces.items pages k tiles mine is in
+            let long : length block ≡ 4096 = ap length (sym (get_or_from_slice_get pages k block [] among)) ∙ whole k [] (slice_get_within pages k block among) in
+            (t.tiled, omega (arith, long, ap length t.whole, length-drop 16 block));
+      },
+      length-map pages (tiles_of side.shapes),
+    )

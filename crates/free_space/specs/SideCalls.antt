@@ -1,17 +1,19 @@
 -- A side beside the shelf that holds its pages, and what its calls make of its cells.
-use Rattle.std.specs.Prelude.{◌≡◌, ℕ, zero, suc, ◌+◌, ◌<◌, true, List, length, Option, Some, IsSome, slice_get, Result, OnOk, OnErr, IsErrOf}
+use Rattle.std.specs.Prelude.{◌≡◌, ℕ, zero, suc, ◌+◌, ◌<◌, true, List, [], length, Option, Some, IsSome, slice_get, Result, OnOk, OnErr, IsErrOf}
 use Rattle.hal_base.specs.declared.outcome.PageFault.{PageFault}
 use Rattle.hal_base.specs.declared.outcome.PageFault.TheVariants.{NoRoom}
 use Rattle.hal_base.specs.declared.pages.SetId.{SetId}
 use Rattle.hal_base.specs.declared.place.Shape.{Shape}
-use Rattle.hal_base.specs.ShelfCalls.{ShelfView, SameShelf}
+use Rattle.hal_base.specs.ShelfCalls.{ShelfView, SameShelf, OnlyChanges, OnlyGrows}
 use Rattle.segment_blocks.specs.declared.tile.Cell.{Cell}
 use Rattle.segment_blocks.specs.declared.tile.Tile.{Tile}
+use Rattle.free_space.specs.declared.listing.PlacedCell.{PlacedCell}
 use Rattle.free_space.specs.declared.side.SideCells.{SideCells}
 use Rattle.free_space.specs.declared.store.CellStore.{CellStore}
+use Rattle.free_space.specs.Listing.{ListsPage}
 use Rattle.free_space.specs.Map.{layout_of, Adds, Alters}
-use Rattle.free_space.specs.Opening.{BreaksAt, FirstBreaksAt}
-use Rattle.free_space.specs.Placing.{length_of, NoHoleFits, NoPlace, Places, Appends}
+use Rattle.free_space.specs.Opening.{FirstBreaksAt}
+use Rattle.free_space.specs.Placing.{length_of, opened_pages, NoHoleFits, NoPlace, Places, Appends}
 use Rattle.free_space.specs.Store.{AreTiled, StandsFor, Becomes, added}
 use Rattle.free_space.specs.Side.{IsFirst, lettered, place_at, are_letters, place_of, side_cell}
 
@@ -61,12 +63,26 @@ Turns before now old new Leads = IsTold before old → IsTold now new × Leads (
 abbrev pub SameCells : (ℕ → Option Cell) → (ℕ → Option Cell) → Type 0
 SameCells old new = (at : ℕ) → new at ≡ old at
 
+-- so after a call that didn't place its cell
+abbrev pub KeepsCells : {E : Type 0} → SideCells → SideCells → ShelfView → ShelfView → E → Type 0
+KeepsCells before now old new fault = Turns before now old new SameCells
+
 -- the data set of an address, and that of a cell's type
 abbrev pub set_at : SideCells → ℕ → SetId
 set_at side at = lettered side.first (place_at at)
 
 abbrev pub set_of : SideCells → Cell → SetId
 set_of side cell = lettered side.first (place_of side.letters cell.code)
+
+-- a call that changes the data set of an address, and one that changes that of a cell's type and adds the pages that it has got
+abbrev pub OnlyChangesAt : SideCells → ℕ → Type 0 → Type 0 → ShelfView → ShelfView → Type 0
+OnlyChangesAt side at steady failed old new = OnlyChanges (set_at side at) steady failed old new
+
+abbrev pub added_for : SideCells → Cell → ShelfView → ShelfView → ℕ
+added_for side cell old new = added (set_of side cell) old new
+
+abbrev pub GrowsFor : SideCells → Cell → Type 0 → Type 0 → ShelfView → ShelfView → Type 0
+GrowsFor side cell steady failed old new = OnlyGrows (added_for side cell old new) (set_of side cell) steady failed old new
 
 -- the answer of a call that gives the cell at an address another value
 pub record AltersCell (result : Result Unit PageFault) (side : SideCells) (at : ℕ) (change : Cell → Cell) (old new : ShelfView) : Type 0 where
@@ -95,10 +111,35 @@ pub record AppendsCell (before now : SideCells) (cell : Cell) (fbff fspf : ℕ) 
 abbrev pub IsSaidOf : SideCells → Cell → ShelfView → (List (List Tile) → Type 0) → Type 0
 IsSaidOf side cell shelf P = (pages : List (List ℕ)) → shelf.pages (set_of side cell) ≡ Some pages → P (layout_of side.shapes pages)
 
+-- how many pages FRSPC's rule opens for a cell's data set
+abbrev pub opened_for : SideCells → Cell → ℕ → ShelfView → ℕ
+opened_for side cell fbff shelf = opened_pages fbff (length (shelf.places (set_of side cell)))
+
+-- NoRoom came: no hole of the cell's data set has place for it, and no block is free
+pub record HasNoRoom (side : SideCells) (cell : Cell) (old new : ShelfView) : Type 0 where
+  pub none_free : old.free ≡ []
+  pub same : SameShelf old new
+  pub no_hole : IsSaidOf side cell old (NoHoleFits (length_of cell))
+
+-- so of a cell that was to be appended: fewer blocks are free than the rule opens pages
+pub record HasNoRoomBehind (side : SideCells) (cell : Cell) (fbff fspf : ℕ) (old : ShelfView) : Type 0 where
+  pub few_free : length old.free < opened_for side cell fbff old
+  pub no_place : IsSaidOf side cell old (NoPlace fbff fspf (length_of cell))
+
+-- the side was opened on these data sets and types
+pub record IsOpenedOn (first : SetId) (letters : List ℕ) (shapes : List Shape) (shelf : ShelfView) (side : SideCells) : Type 0 where
+  pub set : side.first ≡ first
+  pub letters_are : side.letters ≡ letters
+  pub shapes_are : side.shapes ≡ shapes
+  pub stands : StandsForSide side shelf
+
 -- how many pages the letters up to a place have
 unfoldable pub pages_upto : SetId → ShelfView → ℕ → ℕ
 pages_upto first shelf zero = 0
 pages_upto first shelf (suc place) = pages_upto first shelf place + length (shelf.places (lettered first place))
+
+abbrev pub side_pages : SetId → ShelfView → ℕ
+side_pages first shelf = pages_upto first shelf 10
 
 -- at this offset of page n of some letter no tile begins; the letters before it, and the tiles before it, are well made
 pub record SideBreaksAt (first : SetId) (shapes : List Shape) (shelf : ShelfView) (n offset : ℕ) : Type 0 where
@@ -106,3 +147,7 @@ pub record SideBreaksAt (first : SetId) (shapes : List Shape) (shelf : ShelfView
   pub below : place < 10
   pub here : (pages : List (List ℕ)) → shelf.pages (lettered first place) ≡ Some pages → FirstBreaksAt shapes pages n offset
   pub before : (other : ℕ) (pages : List (List ℕ)) → other < place → shelf.pages (lettered first other) ≡ Some pages → AreTiled shapes pages
+
+-- where the pages are told, these are the cells of a page of the letter at a place
+abbrev pub Lists : SideCells → ShelfView → ℕ → ℕ → List PlacedCell → Type 0
+Lists side shelf place n list = ListsPage (lettered side.first place) side.shapes shelf n list

@@ -22,17 +22,23 @@ mod edit;
 mod freeing;
 mod growing;
 mod laws;
+mod listing;
 mod open;
 mod page;
 mod place;
 mod setting;
 mod side;
 mod side_cells;
+mod side_pages;
 mod side_room;
 mod space;
 mod store;
 mod tiles;
 
-pub use laws::{no_cell_is_at_zero, others_leave_a_store_open};
+pub use laws::{
+    no_cell_is_at_zero, no_side_cell_is_at_zero, others_leave_a_side_open,
+    others_leave_a_store_open, pages_list_the_cells,
+};
+pub use listing::PlacedCell;
 pub use side::SideCells;
 pub use store::CellStore;

@@ -3,7 +3,7 @@ ghost use Rattle.std.specs.Prelude.{◌≡◌, ℕ, ◌+◌, ◌<◌, ◌≤◌,
 ghost use Rattle.hal_base.specs.ShelfCalls.{OnlyReads};
 ghost use Rattle.free_space.specs.declared.store.CellStore.{CellStore as StoreOf};
 ghost use Rattle.free_space.specs.Side.{IsFirst, lettered, are_letters, place_at, place_of};
-ghost use Rattle.free_space.specs.SideCalls.{StandsForSide, pages_upto, SideBreaksAt};
+ghost use Rattle.free_space.specs.SideCalls.{IsOpenedOn, SideBreaksAt, side_pages};
 ghost use Rattle.free_space.specs.Store.{StandsFor, IsTyped};
 
 use crate::CellStore;
@@ -23,7 +23,7 @@ pub struct SideCells {
 }
 
 /// The data set of the letter at a place.
-fn lettered(first: SetId, place: u8) -> SetId
+pub(crate) fn lettered(first: SetId, place: u8) -> SetId
     requires first { IsFirst first }
     requires place { place < 10 }
     ensures { result ≡ lettered first place }
@@ -47,7 +47,8 @@ fn open_stores<H: Shelf>(
     ensures each { IfOk result (λ stores. (place : ℕ) (store : StoreOf) → slice_get stores.items place ≡ Some store →
         (store.set ≡ lettered first place) × (store.shapes ≡ shapes.now) × StandsFor store (H.seen shelf.new)) }
     ensures bad { (n offset : ℕ) → result ≡ Err (StoreFault.BadTile n offset) → SideBreaksAt first shapes.now (H.seen shelf.old) n offset }
-    ensures leaves { OnlyReads (pages_upto first (H.seen shelf.old) 10) (H.steady shelf.old shelf.new) (IsErrOf result StoreFault.Failed) (H.seen shelf.old) (H.seen shelf.new) }
+    ensures leaves { OnlyReads (side_pages first (H.seen shelf.old)) (H.steady shelf.old shelf.new)
+        (IsErrOf result StoreFault.Failed) (H.seen shelf.old) (H.seen shelf.new) }
 {
     let mut stores = Vec::new(alloc);
     for place in 0..10 {
@@ -74,9 +75,10 @@ impl SideCells {
         requires first { IsFirst first }
         requires letters { IsTrue (are_letters letters.now) }
         requires as_many { length letters.now ≡ length shapes.now }
-        ensures opened { IfOk result (λ side. (side.first ≡ first) × (side.letters ≡ letters.now) × (side.shapes ≡ shapes.now) × StandsForSide side (H.seen shelf.new)) }
+        ensures opened { IfOk result (IsOpenedOn first letters.now shapes.now (H.seen shelf.new)) }
         ensures bad { (n offset : ℕ) → result ≡ Err (StoreFault.BadTile n offset) → SideBreaksAt first shapes.now (H.seen shelf.old) n offset }
-        ensures leaves { OnlyReads (pages_upto first (H.seen shelf.old) 10) (H.steady shelf.old shelf.new) (IsErrOf result StoreFault.Failed) (H.seen shelf.old) (H.seen shelf.new) }
+        ensures leaves { OnlyReads (side_pages first (H.seen shelf.old)) (H.steady shelf.old shelf.new)
+            (IsErrOf result StoreFault.Failed) (H.seen shelf.old) (H.seen shelf.new) }
     {
         let letters = kept(alloc, letters)?;
         let shapes = kept(alloc, shapes)?;

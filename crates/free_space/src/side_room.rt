@@ -1,10 +1,9 @@
 // A cell that comes to a side or leaves it.
-ghost use Rattle.std.specs.Prelude.{◌≡◌, ◌≢◌, ◌<◌, ◌≤◌, [], false, length, MatchResult, OnOk, OnErr, IsErrOf, IsTrue};
-ghost use Rattle.hal_base.specs.ShelfCalls.{SameShelf, OnlyChanges, OnlyGrows};
+ghost use Rattle.std.specs.Prelude.{◌≡◌, ◌≢◌, ◌≤◌, false, length, MatchResult, OnOk, OnErr, IsErrOf, IsTrue};
+ghost use Rattle.hal_base.specs.ShelfCalls.{SameShelf};
 ghost use Rattle.free_space.specs.Map.{Drops};
-ghost use Rattle.free_space.specs.Placing.{length_of, opened_pages, NoHoleFits, NoPlace};
-ghost use Rattle.free_space.specs.SideCalls.{StandsForSide, StaysOpenOn, Holds, Turns, SameCells, PlacesCell, AppendsCell, IsSaidOf, set_at, set_of};
-ghost use Rattle.free_space.specs.Store.{added, IsTyped};
+ghost use Rattle.free_space.specs.SideCalls.{StandsForSide, StaysOpenOn, Holds, Turns, KeepsCells, PlacesCell, AppendsCell, HasNoRoom, HasNoRoomBehind, OnlyChangesAt, GrowsFor, added_for, opened_for, set_of};
+ghost use Rattle.free_space.specs.Store.{IsTyped};
 
 use crate::SideCells;
 use crate::side::place_at;
@@ -20,12 +19,12 @@ impl SideCells {
         requires takes { IsTrue ((H.seen shelf.old).takes (set_of self.old cell.now) 1) }
         requires typed { IsTyped self.old.shapes cell.now }
         requires content { length cell.now.content ≤ 2016 }
-        ensures placed { MatchResult result (PlacesCell self.old self.new cell.now (H.seen shelf.old) (H.seen shelf.new)) (λ _. Turns self.old self.new (H.seen shelf.old) (H.seen shelf.new) SameCells) }
-        ensures no_room { IsErrOf result PageFault.NoRoom → ((H.seen shelf.old).free ≡ []) × SameShelf (H.seen shelf.old) (H.seen shelf.new)
-            × IsSaidOf self.old cell.now (H.seen shelf.old) (NoHoleFits (length_of cell.now)) }
-        ensures few { added (set_of self.old cell.now) (H.seen shelf.old) (H.seen shelf.new) ≤ 1 }
+        ensures placed { MatchResult result (PlacesCell self.old self.new cell.now (H.seen shelf.old) (H.seen shelf.new))
+            (KeepsCells self.old self.new (H.seen shelf.old) (H.seen shelf.new)) }
+        ensures no_room { IsErrOf result PageFault.NoRoom → HasNoRoom self.old cell.now (H.seen shelf.old) (H.seen shelf.new) }
+        ensures few { added_for self.old cell.now (H.seen shelf.old) (H.seen shelf.new) ≤ 1 }
         ensures stays { StaysOpenOn self.old self.new (H.seen shelf.new) }
-        ensures leaves { OnlyGrows (added (set_of self.old cell.now) (H.seen shelf.old) (H.seen shelf.new)) (set_of self.old cell.now) (H.steady shelf.old shelf.new) (IsErrOf result PageFault.Failed) (H.seen shelf.old) (H.seen shelf.new) }
+        ensures leaves { GrowsFor self.old cell.now (H.steady shelf.old shelf.new) (IsErrOf result PageFault.Failed) (H.seen shelf.old) (H.seen shelf.new) }
     {
         let place = self.place_of(cell);
         self.stores[place].place(shelf, cell)
@@ -48,12 +47,12 @@ impl SideCells {
         requires typed { IsTyped self.old.shapes cell.now }
         requires content { length cell.now.content ≤ 2016 }
         requires step { fbff ≢ 1 }
-        ensures appended { MatchResult result (AppendsCell self.old self.new cell.now fbff fspf (H.seen shelf.old) (H.seen shelf.new)) (λ _. Turns self.old self.new (H.seen shelf.old) (H.seen shelf.new) SameCells) }
-        ensures no_room { IsErrOf result PageFault.NoRoom → (length (H.seen shelf.old).free < opened_pages fbff (length ((H.seen shelf.old).places (set_of self.old cell.now))))
-            × IsSaidOf self.old cell.now (H.seen shelf.old) (NoPlace fbff fspf (length_of cell.now)) }
-        ensures few { added (set_of self.old cell.now) (H.seen shelf.old) (H.seen shelf.new) ≤ opened_pages fbff (length ((H.seen shelf.old).places (set_of self.old cell.now))) }
+        ensures appended { MatchResult result (AppendsCell self.old self.new cell.now fbff fspf (H.seen shelf.old) (H.seen shelf.new))
+            (KeepsCells self.old self.new (H.seen shelf.old) (H.seen shelf.new)) }
+        ensures no_room { IsErrOf result PageFault.NoRoom → HasNoRoomBehind self.old cell.now fbff fspf (H.seen shelf.old) }
+        ensures few { added_for self.old cell.now (H.seen shelf.old) (H.seen shelf.new) ≤ opened_for self.old cell.now fbff (H.seen shelf.old) }
         ensures stays { StaysOpenOn self.old self.new (H.seen shelf.new) }
-        ensures leaves { OnlyGrows (added (set_of self.old cell.now) (H.seen shelf.old) (H.seen shelf.new)) (set_of self.old cell.now) (H.steady shelf.old shelf.new) (IsErrOf result PageFault.Failed) (H.seen shelf.old) (H.seen shelf.new) }
+        ensures leaves { GrowsFor self.old cell.now (H.steady shelf.old shelf.new) (IsErrOf result PageFault.Failed) (H.seen shelf.old) (H.seen shelf.new) }
     {
         let place = self.place_of(cell);
         self.stores[place].append(shelf, cell, fbff, fspf)
@@ -68,7 +67,7 @@ impl SideCells {
         ensures unchanged { OnErr result (SameShelf (H.seen shelf.old) (H.seen shelf.new)) }
         ensures room { result ≡ Err PageFault.NoRoom → ⊥ }
         ensures stays { StaysOpenOn self.old self.new (H.seen shelf.new) }
-        ensures leaves { OnlyChanges (set_at self.old at) (H.steady shelf.old shelf.new) (IsErrOf result PageFault.Failed) (H.seen shelf.old) (H.seen shelf.new) }
+        ensures leaves { OnlyChangesAt self.old at (H.steady shelf.old shelf.new) (IsErrOf result PageFault.Failed) (H.seen shelf.old) (H.seen shelf.new) }
     {
         let place = place_at(at);
         if place >= self.stores.len() {

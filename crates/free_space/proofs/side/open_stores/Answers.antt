@@ -1,4 +1,4 @@
-use Rattle.std.proofs.Common.{◌≡◌, ℕ, ◌+◌, ◌<◌, inl, inr, List, [], ◌∷◌, ◌++◌, Err, length, Some, sym, ap, subst, ◌∙◌, refl, rules, arith}
+use Rattle.std.proofs.Common.{◌≡◌, ℕ, ◌+◌, inl, inr, List, [], ◌∷◌, ◌++◌, Err, length, sym, ap, subst, ◌∙◌, refl, rules, arith}
 use Rattle.std.specs.Prelude.{slice_get}
 use Rattle.std.proofs.lemmas.List.{length_push}
 use Rattle.std.proofs.lemmas.Result.{err_from_is_err_and}
@@ -10,7 +10,7 @@ use Rattle.free_space.specs.Side.{lettered}
 use Rattle.free_space.specs.SideCalls.{pages_upto}
 use Rattle.free_space.specs.Store.{StandsFor, AreTiled}
 use Rattle.free_space.proofs.Told.{handed_on, handed_to, ok_err, push_cases, stands_same}
-use Rattle.free_space.proofs.SideSteps.{upto_none, upto_more, upto_ten, got}
+use Rattle.free_space.proofs.SideSteps.{upto_more, upto_ten, got}
 use Rattle.free_space.proofs.side.open_stores.Goals as goal
 
 pub loop-place-init : goal.loop-place-init

@@ -1,4 +1,4 @@
-use Rattle.std.proofs.Common.{length, ◌<◌, sym, ◌∙◌, ap, refl, subst}
+use Rattle.std.proofs.Common.{length, ◌<◌, ◌∙◌, ap, refl, subst}
 use Rattle.hal_base.specs.declared.pages.SetId.{SetId}
 use Rattle.std.specs.Vec.{with_item}
 use Rattle.free_space.specs.declared.side.SideCells.{SideCells}
@@ -23,7 +23,7 @@ pub returns-clause-no_room : goal.returns-clause-no_room
 returns-clause-no_room g c = λ is.
     let letter = (letter_here c.args.self.now (g.H.Shelf.seen c.args.shelf.now) c.place_of-place.result c.index_mut.result.now c.requires.stands c.place_of-place.ensures.below c.index_mut.ensures.value).1 in
     let e = c.append.ensures.no_room is in
-    (subst (λ (s : SetId). length (g.H.Shelf.seen c.args.shelf.now).free < opened_pages c.args.fbff (length ((g.H.Shelf.seen c.args.shelf.now).places s))) (letter.set ∙ ap (lettered c.args.self.now.first) c.place_of-place.ensures.place) e.0, said_of c.args.self.now c.place_of-place.result c.index_mut.result.now (g.H.Shelf.seen c.args.shelf.now) c.args.cell.now (NoPlace c.args.fbff c.args.fspf (length_of c.args.cell.now)) letter c.place_of-place.ensures.place e.1)
+    record { few_free = subst (λ (s : SetId). length (g.H.Shelf.seen c.args.shelf.now).free < opened_pages c.args.fbff (length ((g.H.Shelf.seen c.args.shelf.now).places s))) (letter.set ∙ ap (lettered c.args.self.now.first) c.place_of-place.ensures.place) e.0; no_place = said_of c.args.self.now c.place_of-place.result c.index_mut.result.now (g.H.Shelf.seen c.args.shelf.now) c.args.cell.now (NoPlace c.args.fbff c.args.fspf (length_of c.args.cell.now)) letter c.place_of-place.ensures.place e.1 }
 
 pub returns-clause-stays : goal.returns-clause-stays
 returns-clause-stays g c =

@@ -1,4 +1,4 @@
-use Rattle.std.proofs.Common.{◌<◌, sym, arith}
+use Rattle.std.proofs.Common.{◌<◌, arith}
 use Rattle.free_space.proofs.SideSteps.{letter_here, no_place, finds, side_same, each_ok}
 use Rattle.free_space.proofs.side.SideCells.find.Goals as goal
 

@@ -1,4 +1,4 @@
-use Rattle.std.proofs.Common.{sym, ◌∙◌, ap, refl, subst}
+use Rattle.std.proofs.Common.{◌∙◌, ap, refl}
 use Rattle.std.specs.Vec.{with_item}
 use Rattle.free_space.specs.declared.side.SideCells.{SideCells}
 use Rattle.free_space.specs.Side.{lettered}
@@ -22,7 +22,7 @@ pub returns-clause-no_room : goal.returns-clause-no_room
 returns-clause-no_room g c = λ is.
     let letter = (letter_here c.args.self.now (g.H.Shelf.seen c.args.shelf.now) c.place_of-place.result c.index_mut.result.now c.requires.stands c.place_of-place.ensures.below c.index_mut.ensures.value).1 in
     let e = c.place.ensures.no_room is in
-    (e.0, e.1, said_of c.args.self.now c.place_of-place.result c.index_mut.result.now (g.H.Shelf.seen c.args.shelf.now) c.args.cell.now (NoHoleFits (length_of c.args.cell.now)) letter c.place_of-place.ensures.place e.2)
+    record { none_free = e.0; same = e.1; no_hole = said_of c.args.self.now c.place_of-place.result c.index_mut.result.now (g.H.Shelf.seen c.args.shelf.now) c.args.cell.now (NoHoleFits (length_of c.args.cell.now)) letter c.place_of-place.ensures.place e.2 }
 
 pub returns-clause-stays : goal.returns-clause-stays
 returns-clause-stays g c =

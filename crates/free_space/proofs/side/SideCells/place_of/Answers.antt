@@ -1,4 +1,4 @@
-use Rattle.std.proofs.Common.{◌≡◌, ℕ, ◌-◌, ◌≤◌, List, ap, arith, get_or}
+use Rattle.std.proofs.Common.{ℕ, ◌-◌, List, ap, arith, get_or}
 use Rattle.std.proofs.lemmas.Option.{slice_get_within}
 use Rattle.segment_blocks.specs.Tiling.{shape_of}
 use Rattle.free_space.proofs.SideSteps.{letter_within}

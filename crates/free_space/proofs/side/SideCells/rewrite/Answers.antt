@@ -1,8 +1,8 @@
-use Rattle.std.proofs.Common.{◌≡◌, ◌<◌, sym, ◌∙◌, ap, subst, refl, arith}
+use Rattle.std.proofs.Common.{◌<◌, sym, ◌∙◌, ap, subst, refl, arith}
 use Rattle.hal_base.specs.declared.pages.SetId.{SetId}
 use Rattle.free_space.specs.Changes.{changed, Rewrites}
 use Rattle.free_space.specs.Map.{Alters}
-use Rattle.free_space.specs.Side.{lettered, place_at}
+use Rattle.free_space.specs.Side.{lettered}
 use Rattle.free_space.proofs.SideSteps.{LeavesOthers, letter_here, side_stays, holds, lays, turns, lift_alters, ok_weaker, changed_others, same_there, changes_in}
 use Rattle.free_space.proofs.side.SideCells.rewrite.Goals as goal
 
