@@ -21,7 +21,7 @@ use Rattle.free_space.specs.Changes.{GivesBack}
 use Rattle.free_space.specs.Placing.{grown, Places, Appends}
 use Rattle.free_space.specs.Store.{Knows, StandsFor, StaysOpen, Becomes, Relays, added, PlacesAt, AppendsAt, GetsEmpty, IsSaid, HoldsAt, StandsAt}
 use Rattle.free_space.specs.Side.{IsFirst, lettered, are_letters, place_at, place_of, cell_in, side_cell}
-use Rattle.free_space.specs.SideCalls.{IsLetter, StandsForSide, StaysOpenOn, IsTold, Turns, SameCells, Finds, Holds, Lays, PlacesCell, AppendsCell, IsSaidOf, set_of, cells_of, pages_upto}
+use Rattle.free_space.specs.SideCalls.{IsLetter, StandsForSide, StaysOpenOn, IsTold, Turns, SameCells, Finds, Holds, Lays, PlacesCell, AppendsCell, KeepsCells, IsSaidOf, set_of, cells_of, pages_upto}
 use Rattle.free_space.specs.SideLaws.{IsApart, StaysBeside}
 use Rattle.free_space.proofs.Told.{set_same, set_other, stands_same, page_of_layout}
 use Rattle.free_space.proofs.Listings.{ArePages}
@@ -332,11 +332,14 @@ appended_cell side now place store old new cell fbff fspf at c is put =
     }
 
 -- no more than empty pages came
-pub none_came : (side now : SideCells) (place : ℕ) (store : CellStore) (old new : ShelfView) → Called side now place store old new → GetsEmpty store old new → Turns side now old new SameCells
-none_came side now place store old new c empty =
+pub none_came : (side now : SideCells) (place : ℕ) (store : CellStore) (old new : ShelfView) (cell : Cell) → Called side now place store old new → place ≡ place_of side.letters cell.code → GetsEmpty store old new → KeepsCells side now cell old new
+none_came side now place store old new cell c is empty =
     let P : SetId → List (List Tile) → List (List Tile) → Type 0 = λ set layout later. later ≡ grown (added set old new) layout in
-    turned side now place store old new P SameCells c empty (λ pages later i is. lift_same side.first side.shapes old new place pages later i
-    (λ x. ap (λ (l : List (List Tile)). cell_at (lettered side.first place) l x) is ∙ grown_at (lettered side.first place) (layout_of side.shapes pages) (added (lettered side.first place) old new) x))
+    record {
+      cells = turned side now place store old new P SameCells c empty (λ pages later i same. lift_same side.first side.shapes old new place pages later i
+          (λ x. ap (λ (l : List (List Tile)). cell_at (lettered side.first place) l x) same ∙ grown_at (lettered side.first place) (layout_of side.shapes pages) (added (lettered side.first place) old new) x));
+      tiles = lays store (set_of side cell) side.shapes old new P (c.letter.set ∙ ap (lettered side.first) is) c.letter.shapes empty;
+    }
 
 pub gone_cell : (side now : SideCells) (place : ℕ) (store : CellStore) (old new : ShelfView) (at : ℕ) → Called side now place store old new → place ≡ place_at at → Relays store old new (GivesBack store.set at) → Turns side now old new (Drops at)
 gone_cell side now place store old new at c is gone =

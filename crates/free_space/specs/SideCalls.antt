@@ -10,10 +10,11 @@ use Rattle.segment_blocks.specs.declared.tile.Tile.{Tile}
 use Rattle.free_space.specs.declared.listing.PlacedCell.{PlacedCell}
 use Rattle.free_space.specs.declared.side.SideCells.{SideCells}
 use Rattle.free_space.specs.declared.store.CellStore.{CellStore}
+use Rattle.free_space.specs.Changes.{Rewrites, GivesBack}
 use Rattle.free_space.specs.Listing.{ListsPage}
-use Rattle.free_space.specs.Map.{layout_of, Adds, Alters}
+use Rattle.free_space.specs.Map.{layout_of, Adds, Alters, Drops}
 use Rattle.free_space.specs.Opening.{FirstBreaksAt}
-use Rattle.free_space.specs.Placing.{length_of, opened_pages, NoHoleFits, NoPlace, Places, Appends}
+use Rattle.free_space.specs.Placing.{length_of, opened_pages, grown, NoHoleFits, NoPlace, Places, Appends}
 use Rattle.free_space.specs.Store.{AreTiled, StandsFor, Becomes, added}
 use Rattle.free_space.specs.Side.{IsFirst, lettered, place_at, are_letters, place_of, side_cell}
 
@@ -63,10 +64,6 @@ Turns before now old new Leads = IsTold before old → IsTold now new × Leads (
 abbrev pub SameCells : (ℕ → Option Cell) → (ℕ → Option Cell) → Type 0
 SameCells old new = (at : ℕ) → new at ≡ old at
 
--- so after a call that didn't place its cell
-abbrev pub KeepsCells : {E : Type 0} → SideCells → SideCells → ShelfView → ShelfView → E → Type 0
-KeepsCells before now old new fault = Turns before now old new SameCells
-
 -- the data set of an address, and that of a cell's type
 abbrev pub set_at : SideCells → ℕ → SetId
 set_at side at = lettered side.first (place_at at)
@@ -84,28 +81,41 @@ added_for side cell old new = added (set_of side cell) old new
 abbrev pub GrowsFor : SideCells → Cell → Type 0 → Type 0 → ShelfView → ShelfView → Type 0
 GrowsFor side cell steady failed old new = OnlyGrows (added_for side cell old new) (set_of side cell) steady failed old new
 
--- the answer of a call that gives the cell at an address another value
-pub record AltersCell (result : Result Unit PageFault) (side : SideCells) (at : ℕ) (change : Cell → Cell) (old new : ShelfView) : Type 0 where
-  pub altered : OnOk result (Turns side side old new (Alters at change))
-  pub unchanged : OnErr result (SameShelf old new)
-  pub room : IsErrOf result NoRoom → ⊥
-
 -- so of the tiles of a data set, where its pages are told
 abbrev pub Lays : List Shape → SetId → ShelfView → ShelfView → (List (List Tile) → List (List Tile) → Type 0) → Type 0
 Lays shapes set old new Leads = (pages : List (List ℕ)) → old.pages set ≡ Some pages → Becomes set shapes pages (new.pages set) Leads
+
+-- the answer of a call that gives the cell at an address another value
+pub record AltersCell (result : Result Unit PageFault) (side : SideCells) (at : ℕ) (change : Cell → Cell) (old new : ShelfView) : Type 0 where
+  pub altered : OnOk result (Turns side side old new (Alters at change))
+  pub tiles : OnOk result (Lays side.shapes (set_at side at) old new (Rewrites (set_at side at) at change))
+  pub unchanged : OnErr result (SameShelf old new)
+  pub room : IsErrOf result NoRoom → ⊥
+
+-- the answer of a call that makes a hole of the cell at an address
+pub record DropsCell (result : Result Unit PageFault) (before now : SideCells) (at : ℕ) (old new : ShelfView) : Type 0 where
+  pub dropped : OnOk result (Turns before now old new (Drops at))
+  pub tiles : OnOk result (Lays before.shapes (set_at before at) old new (GivesBack (set_at before at) at))
+  pub unchanged : OnErr result (SameShelf old new)
+  pub room : IsErrOf result NoRoom → ⊥
+
+-- a call that didn't store its cell: each cell stands where it stood, and no more than empty pages came
+pub record KeepsCells (before now : SideCells) (cell : Cell) (old new : ShelfView) : Type 0 where
+  pub cells : Turns before now old new SameCells
+  pub tiles : Lays before.shapes (set_of before cell) old new (λ layout later. later ≡ grown (added_for before cell old new) layout)
 
 -- the cell came to the address, in the data set of its type's letter, where it has the lowest hole in which it has place
 pub record PlacesCell (before now : SideCells) (cell : Cell) (old new : ShelfView) (at : ℕ) : Type 0 where
   pub letter : IsTold before old → place_at at ≡ place_of before.letters cell.code
   pub adds : Turns before now old new (Adds at cell)
-  pub places : Lays before.shapes (set_of before cell) old new (Places (set_of before cell) cell (added (set_of before cell) old new) at)
+  pub places : Lays before.shapes (set_of before cell) old new (Places (set_of before cell) cell (added_for before cell old new) at)
 
 -- the cell came to the address, in the data set of its type's letter, past all cells there, by the rule of FRSPC
 pub record AppendsCell (before now : SideCells) (cell : Cell) (fbff fspf : ℕ) (old new : ShelfView) (at : ℕ) : Type 0 where
   pub letter : IsTold before old → place_at at ≡ place_of before.letters cell.code
   pub adds : Turns before now old new (Adds at cell)
   pub above : IsTold before old → (other : ℕ) (standing : Cell) → cells_of before old other ≡ Some standing → place_at other ≡ place_at at → other < at
-  pub appends : Lays before.shapes (set_of before cell) old new (Appends (set_of before cell) cell fbff fspf (added (set_of before cell) old new) at)
+  pub appends : Lays before.shapes (set_of before cell) old new (Appends (set_of before cell) cell fbff fspf (added_for before cell old new) at)
 
 -- so of the tiles of a cell's data set, where the pages are told
 abbrev pub IsSaidOf : SideCells → Cell → ShelfView → (List (List Tile) → Type 0) → Type 0

@@ -51,6 +51,7 @@ impl CellStore {
     ) -> Result<List<PlacedCell>, PageFault>
         requires live { IsTrue (H.seen shelf.old).live }
         requires stands { StandsFor self.now (H.seen shelf.old) }
+        requires page { page < length ((H.seen shelf.old).places self.now.set) }
         ensures cells { IfOk result (ListsPage self.now.set self.now.shapes (H.seen shelf.old) page) }
         ensures room { result ≡ Err PageFault.NoRoom → ⊥ }
         ensures stands { StandsFor self.now (H.seen shelf.new) }

@@ -29,6 +29,7 @@ impl SideCells {
         requires live { IsTrue (H.seen shelf.old).live }
         requires stands { StandsForSide self.now (H.seen shelf.old) }
         requires place { place < 10 }
+        requires page { page < length ((H.seen shelf.old).places (lettered self.now.first place)) }
         ensures cells { IfOk result (Lists self.now (H.seen shelf.old) place page) }
         ensures room { result ≡ Err PageFault.NoRoom → ⊥ }
         ensures stands { StandsForSide self.now (H.seen shelf.new) }

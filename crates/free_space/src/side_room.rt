@@ -1,8 +1,7 @@
 // A cell that comes to a side or leaves it.
 ghost use Rattle.std.specs.Prelude.{◌≡◌, ◌≢◌, ◌≤◌, false, length, MatchResult, OnOk, OnErr, IsErrOf, IsTrue};
 ghost use Rattle.hal_base.specs.ShelfCalls.{SameShelf};
-ghost use Rattle.free_space.specs.Map.{Drops};
-ghost use Rattle.free_space.specs.SideCalls.{StandsForSide, StaysOpenOn, Holds, Turns, KeepsCells, PlacesCell, AppendsCell, HasNoRoom, HasNoRoomBehind, OnlyChangesAt, GrowsFor, added_for, opened_for, set_of};
+ghost use Rattle.free_space.specs.SideCalls.{StandsForSide, StaysOpenOn, Holds, KeepsCells, DropsCell, PlacesCell, AppendsCell, HasNoRoom, HasNoRoomBehind, OnlyChangesAt, GrowsFor, added_for, opened_for, set_of};
 ghost use Rattle.free_space.specs.Store.{IsTyped};
 
 use crate::SideCells;
@@ -20,7 +19,7 @@ impl SideCells {
         requires typed { IsTyped self.old.shapes cell.now }
         requires content { length cell.now.content ≤ 2016 }
         ensures placed { MatchResult result (PlacesCell self.old self.new cell.now (H.seen shelf.old) (H.seen shelf.new))
-            (KeepsCells self.old self.new (H.seen shelf.old) (H.seen shelf.new)) }
+            (λ _. KeepsCells self.old self.new cell.now (H.seen shelf.old) (H.seen shelf.new)) }
         ensures no_room { IsErrOf result PageFault.NoRoom → HasNoRoom self.old cell.now (H.seen shelf.old) (H.seen shelf.new) }
         ensures few { added_for self.old cell.now (H.seen shelf.old) (H.seen shelf.new) ≤ 1 }
         ensures stays { StaysOpenOn self.old self.new (H.seen shelf.new) }
@@ -48,7 +47,7 @@ impl SideCells {
         requires content { length cell.now.content ≤ 2016 }
         requires step { fbff ≢ 1 }
         ensures appended { MatchResult result (AppendsCell self.old self.new cell.now fbff fspf (H.seen shelf.old) (H.seen shelf.new))
-            (KeepsCells self.old self.new (H.seen shelf.old) (H.seen shelf.new)) }
+            (λ _. KeepsCells self.old self.new cell.now (H.seen shelf.old) (H.seen shelf.new)) }
         ensures no_room { IsErrOf result PageFault.NoRoom → HasNoRoomBehind self.old cell.now fbff fspf (H.seen shelf.old) }
         ensures few { added_for self.old cell.now (H.seen shelf.old) (H.seen shelf.new) ≤ opened_for self.old cell.now fbff (H.seen shelf.old) }
         ensures stays { StaysOpenOn self.old self.new (H.seen shelf.new) }
@@ -63,9 +62,7 @@ impl SideCells {
         requires live { IsTrue (H.seen shelf.old).live }
         requires stands { StandsForSide self.old (H.seen shelf.old) }
         requires cell { Holds self.old (H.seen shelf.old) at (λ cell. cell.copied ≡ false) }
-        ensures given_back { OnOk result (Turns self.old self.new (H.seen shelf.old) (H.seen shelf.new) (Drops at)) }
-        ensures unchanged { OnErr result (SameShelf (H.seen shelf.old) (H.seen shelf.new)) }
-        ensures room { result ≡ Err PageFault.NoRoom → ⊥ }
+        ensures drops { DropsCell result self.old self.new at (H.seen shelf.old) (H.seen shelf.new) }
         ensures stays { StaysOpenOn self.old self.new (H.seen shelf.new) }
         ensures leaves { OnlyChangesAt self.old at (H.steady shelf.old shelf.new) (IsErrOf result PageFault.Failed) (H.seen shelf.old) (H.seen shelf.new) }
     {

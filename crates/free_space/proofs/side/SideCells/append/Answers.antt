@@ -17,7 +17,7 @@ returns-clause-appended g c =
     let now : SideCells = record side { stores = with_item side.stores place c.append.new.self } in
     let was = called side now place store old new c.requires.stands (g.met.H.Shelf.told_alike c.args.shelf.now) (g.met.H.Shelf.told_alike c.append.new.shelf) c.place_of-place.ensures.below c.index_mut.ensures.value
     (grown_others c.append.ensures.leaves.grown) refl refl in
-    all_cases c.append.result c.append.ensures.appended (λ at put. appended_cell side now place store old new c.args.cell.now c.args.fbff c.args.fspf at was c.place_of-place.ensures.place put) (λ fault empty. none_came side now place store old new was empty)
+    all_cases c.append.result c.append.ensures.appended (λ at put. appended_cell side now place store old new c.args.cell.now c.args.fbff c.args.fspf at was c.place_of-place.ensures.place put) (λ fault empty. none_came side now place store old new c.args.cell.now was c.place_of-place.ensures.place empty)
 
 pub returns-clause-no_room : goal.returns-clause-no_room
 returns-clause-no_room g c = λ is.

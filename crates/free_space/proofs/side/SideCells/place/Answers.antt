@@ -16,7 +16,7 @@ returns-clause-placed g c =
     let now : SideCells = record side { stores = with_item side.stores place c.place.new.self } in
     let was = called side now place store old new c.requires.stands (g.met.H.Shelf.told_alike c.args.shelf.now) (g.met.H.Shelf.told_alike c.place.new.shelf) c.place_of-place.ensures.below c.index_mut.ensures.value
     (grown_others c.place.ensures.leaves.grown) refl refl in
-    all_cases c.place.result c.place.ensures.placed (λ at put. placed_cell side now place store old new c.args.cell.now at was c.place_of-place.ensures.place put) (λ fault empty. none_came side now place store old new was empty)
+    all_cases c.place.result c.place.ensures.placed (λ at put. placed_cell side now place store old new c.args.cell.now at was c.place_of-place.ensures.place put) (λ fault empty. none_came side now place store old new c.args.cell.now was c.place_of-place.ensures.place empty)
 
 pub returns-clause-no_room : goal.returns-clause-no_room
 returns-clause-no_room g c = λ is.

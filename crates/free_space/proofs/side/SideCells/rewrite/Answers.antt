@@ -2,7 +2,7 @@ use Rattle.std.proofs.Common.{◌<◌, sym, ◌∙◌, ap, subst, refl, arith}
 use Rattle.hal_base.specs.declared.pages.SetId.{SetId}
 use Rattle.free_space.specs.Changes.{changed, Rewrites}
 use Rattle.free_space.specs.Map.{Alters}
-use Rattle.free_space.specs.Side.{lettered}
+use Rattle.free_space.specs.Side.{lettered, place_at}
 use Rattle.free_space.proofs.SideSteps.{LeavesOthers, letter_here, side_stays, holds, lays, turns, lift_alters, ok_weaker, changed_others, same_there, changes_in}
 use Rattle.free_space.proofs.side.SideCells.rewrite.Goals as goal
 
@@ -27,6 +27,8 @@ returns-clause-alters g c =
           (g.met.H.Shelf.told_alike c.rewrite.new.shelf) c.requires.stands.first below leaves
           (lays c.index.result.now (lettered side.first place) side.shapes old new (λ set. Rewrites set c.args.at (changed c.args.change)) letter.set letter.shapes relays)
           (λ pages now i r. lift_alters side.first side.shapes old new place pages now c.args.at (changed c.args.change) i (sym c.place_at-place.ensures) r.alters));
+      tiles = ok_weaker c.rewrite.result c.rewrite.ensures.changed (λ relays. lays c.index.result.now (lettered side.first (place_at c.args.at)) side.shapes old new (λ set. Rewrites set c.args.at (changed c.args.change))
+          (letter.set ∙ ap (lettered side.first) c.place_at-place.ensures) letter.shapes relays);
       unchanged = c.rewrite.ensures.unchanged;
       room = c.rewrite.ensures.room;
     }
