@@ -8,3 +8,5 @@ pub mod Told
 pub mod MapSteps
 pub mod PageSteps
 pub mod PlaceSteps
+pub mod SideSteps
+pub mod Listings

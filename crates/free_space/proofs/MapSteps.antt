@@ -26,7 +26,7 @@ abbrev pub or_else : Option Cell → Option Cell → Option Cell
 or_else None other = other
 or_else (Some cell) other = Some cell
 
-pick : (b : Bool) (cell : Cell) (one other : Option Cell) → cond b (Some cell) (or_else one other) ≡ or_else (cond b (Some cell) one) other
+pub pick : (b : Bool) (cell : Cell) (one other : Option Cell) → cond b (Some cell) (or_else one other) ≡ or_else (cond b (Some cell) one) other
 pick true cell one other = refl
 pick false cell one other = refl
 
@@ -129,10 +129,10 @@ before_it shapes start after_hole (Seg at one ∷ xs) tile ys o cell are is =
 
 -- ---- addresses
 
-encoded : (x letter page offset : ℕ) → x ≡ letter * 2 ^ 28 + page * 2 ^ 12 + offset → page < 65536 → offset < 4096 → (x / 2 ^ 28 ≡ letter) × (page_at x ≡ page) × (offset_at x ≡ offset)
+pub encoded : (x letter page offset : ℕ) → x ≡ letter * 2 ^ 28 + page * 2 ^ 12 + offset → page < 65536 → offset < 4096 → (x / 2 ^ 28 ≡ letter) × (page_at x ≡ page) × (offset_at x ≡ offset)
 encoded x letter page offset is p o = (omega (arith, is, p, o), omega (arith, is, p, o), omega (arith, is, p, o))
 
-decoded : (x : ℕ) → x ≡ x / 2 ^ 28 * 2 ^ 28 + page_at x * 2 ^ 12 + offset_at x
+pub decoded : (x : ℕ) → x ≡ x / 2 ^ 28 * 2 ^ 28 + page_at x * 2 ^ 12 + offset_at x
 decoded x = omega arith
 
 same_address : (x y : ℕ) → x / 2 ^ 28 ≡ y / 2 ^ 28 → page_at x ≡ page_at y → offset_at x ≡ offset_at y → x ≡ y
@@ -148,7 +148,7 @@ offset_few x = omega arith
 
 -- ---- what stands at an address
 
-at_is : (set : SetId) (layout : List (List Tile)) (at : ℕ) → at / 2 ^ 28 ≡ letter_index set.letter → cell_at set layout at ≡ cell_on (offset_at at) (slice_get layout (page_at at))
+pub at_is : (set : SetId) (layout : List (List Tile)) (at : ℕ) → at / 2 ^ 28 ≡ letter_index set.letter → cell_at set layout at ≡ cell_on (offset_at at) (slice_get layout (page_at at))
 unfolding cell_at
 at_is set layout at letter = ap (λ (b : Bool). cond b (cell_on (offset_at at) (slice_get layout (page_at at))) None) (eq-eqb (at / 2 ^ 28) (letter_index set.letter) letter)
 
@@ -275,7 +275,7 @@ on_grown o count [] p = on_empty o count p
 on_grown o count (tiles ∷ old) zero = refl
 on_grown o count (tiles ∷ old) (suc p) = on_grown o count old p
 
-grown_at : (set : SetId) (old : List (List Tile)) (count x : ℕ) → cell_at set (grown count old) x ≡ cell_at set old x
+pub grown_at : (set : SetId) (old : List (List Tile)) (count x : ℕ) → cell_at set (grown count old) x ≡ cell_at set old x
 grown_at set old count x = same_at set old (grown count old) x (λ letter. on_grown (offset_at x) count old (page_at x))
 
 pub adds : (shapes : List Shape) (set : SetId) (cell : Cell) (at n off len room : ℕ) (before after : List Tile) (old new : List (List Tile)) → at ≡ letter_index set.letter * 2 ^ 28 + n * 2 ^ 12 + off

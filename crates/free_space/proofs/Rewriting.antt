@@ -9,7 +9,7 @@ use Rattle.segment_blocks.specs.declared.tile.Tile.{Tile}
 use Rattle.segment_blocks.specs.declared.tile.Tile.TheVariants.{Hole, Seg}
 use Rattle.segment_blocks.specs.Tiling.{cell_length, shape_of, spelled_hole, spelled_cell, spelling, spelled, Fits, IsCell, IsHole, AreTilesFrom, AreTiles, IsTiling, StandAround}
 use Rattle.free_space.specs.declared.change.Change.{Change}
-use Rattle.free_space.specs.declared.change.Change.TheVariants.{Pointers, Content, Name, Copied}
+use Rattle.free_space.specs.declared.change.Change.TheVariants.{Pointers, Twin, Child, Content, Name, Copied}
 use Rattle.free_space.specs.Changes.{changed}
 use Rattle.free_space.specs.Clearing.{ends_in_hole}
 use Rattle.free_space.proofs.Runs.{length-hole, length-cell, length-spelled, behind, in_place, split_place, whole_length}
@@ -60,6 +60,8 @@ shape_at shapes cell code none is same =
 
 pub changed_code : (change : Change) (cell : Cell) → (changed change cell).code ≡ cell.code
 changed_code (Pointers twin children) cell = refl
+changed_code (Twin twin) cell = refl
+changed_code (Child place to) cell = refl
 changed_code (Content content) cell = refl
 changed_code (Name name) cell = refl
 changed_code Copied cell = refl

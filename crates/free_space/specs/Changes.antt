@@ -5,7 +5,7 @@ use Rattle.segment_blocks.specs.declared.tile.Cell.{Cell}
 use Rattle.segment_blocks.specs.declared.tile.Tile.{Tile}
 use Rattle.segment_blocks.specs.declared.tile.Tile.TheVariants.{Hole, Seg}
 use Rattle.free_space.specs.declared.change.Change.{Change}
-use Rattle.free_space.specs.declared.change.Change.TheVariants.{Pointers, Content, Name, Copied}
+use Rattle.free_space.specs.declared.change.Change.TheVariants.{Pointers, Twin, Child, Content, Name, Copied}
 use Rattle.free_space.specs.Address.{page_at, offset_at}
 use Rattle.free_space.specs.Space.{AreHoles}
 use Rattle.free_space.specs.Map.{Alters, Drops, cell_at}
@@ -40,6 +40,8 @@ pub record GivesBack (set : SetId) (at : ℕ) (old new : List (List Tile)) : Typ
 -- what a change makes of a cell
 abbrev pub changed : Change → Cell → Cell
 changed (Pointers twin children) cell = record cell { twin = twin; children = children }
+changed (Twin twin) cell = record cell { twin = twin }
+changed (Child place to) cell = record cell { children = slice_set cell.children place to }
 changed (Content content) cell = record cell { content = content }
 changed (Name name) cell = record cell { name = name }
 changed Copied cell = record cell { copied = true }

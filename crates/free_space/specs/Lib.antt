@@ -7,4 +7,8 @@ pub mod Changes
 pub mod Placing
 pub mod Store
 pub mod Opening
+pub mod Listing
+pub mod Side
+pub mod SideCalls
+pub mod SideLaws
 pub mod OneProof

@@ -1,5 +1,5 @@
 // A change of one cell, whose length stays.
-ghost use Rattle.std.specs.Prelude.{◌≡◌, ◌↔◌, ℕ, IfOk, IsTrue};
+ghost use Rattle.std.specs.Prelude.{◌≡◌, ◌↔◌, ℕ, slice_set, IfOk, IsTrue};
 ghost use Rattle.segment_blocks.specs.Tiling.{shape_of};
 ghost use Rattle.free_space.specs.Changes.{changed};
 
@@ -10,6 +10,8 @@ use std::alloc::Global;
 #[derive(Debug, Drop)]
 pub(crate) enum Change {
     Pointers { twin: u32, children: List<u32> },
+    Twin(u32),
+    Child { place: u8, to: u32 },
     Content(Bytes),
     Name(Ilk),
     Copied,
@@ -28,6 +30,17 @@ pub(crate) fn copy_cell(alloc: Global, cell: &Cell) -> Result<Cell, Memory>
     })
 }
 
+/// The first children with another one of the child type at a place, if there is such a type.
+fn with_child(alloc: Global, children: &[u32], place: u8, to: u32) -> Result<List<u32>, Memory>
+    ensures { IfOk result (λ list. list ≡ slice_set children.now place to) }
+{
+    let mut all = Vec::from_slice(alloc, children)?;
+    if let Some(child) = all.get_mut(usize::from(place)) {
+        *child = to;
+    }
+    List::from_slice(alloc, all.as_slice())
+}
+
 impl Change {
     /// The change leaves the cell its shape.
     pub fn suits(&self, cell: &Cell) -> bool
@@ -36,7 +49,7 @@ impl Change {
         match self {
             Change::Pointers { children, .. } => children.len() == cell.children.len(),
             Change::Content(content) => content.len() == cell.content.len(),
-            Change::Name(_) | Change::Copied => true,
+            Change::Twin(_) | Change::Child { .. } | Change::Name(_) | Change::Copied => true,
         }
     }
 
@@ -48,6 +61,10 @@ impl Change {
             Change::Pointers { twin, children } => {
                 new.twin = twin;
                 new.children = children;
+            }
+            Change::Twin(twin) => new.twin = twin,
+            Change::Child { place, to } => {
+                new.children = with_child(alloc, cell.children.as_slice(), place, to)?;
             }
             Change::Content(content) => new.content = content,
             Change::Name(name) => new.name = name,

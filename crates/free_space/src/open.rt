@@ -59,11 +59,12 @@ fn read_spaces<H: Shelf>(
     Ok(spaces)
 }
 
-fn kept_shapes(alloc: Global, shapes: &[Shape]) -> Result<List<Shape>, StoreFault>
-    ensures kept { IfOk result (λ list. list ≡ shapes.now) }
+/// A list of these, to be kept.
+pub(crate) fn kept<T: Copy + Drop>(alloc: Global, items: &[T]) -> Result<List<T>, StoreFault>
+    ensures kept { IfOk result (λ list. list ≡ items.now) }
     ensures memory { OnErr result (result ≡ Err StoreFault.Memory) }
 {
-    match List::from_slice(alloc, shapes) {
+    match List::from_slice(alloc, items) {
         Ok(list) => Ok(list),
         Err(_) => Err(StoreFault::Memory),
     }
@@ -85,7 +86,7 @@ impl CellStore {
         ensures bad { (n offset : ℕ) → result ≡ Err (StoreFault.BadTile n offset) → (pages : ListOf (ListOf ℕ)) → (H.seen shelf.old).pages set ≡ Some pages → FirstBreaksAt shapes.now pages n offset }
         ensures leaves { OnlyReads (length ((H.seen shelf.old).places set)) (H.steady shelf.old shelf.new) (IsErrOf result StoreFault.Failed) (H.seen shelf.old) (H.seen shelf.new) }
     {
-        let shapes = kept_shapes(alloc, shapes)?;
+        let shapes = kept(alloc, shapes)?;
         let spaces = read_spaces(alloc, shelf, set, shapes.as_slice())?;
         Ok(CellStore {
             alloc,
