@@ -3,11 +3,13 @@ pub mod ExamplesBroken
 pub mod ExamplesKept
 pub mod Hanging
 pub mod Happening
+pub mod Holding
 pub mod Homes
 pub mod Homing
 pub mod Leading
 pub mod Listed
 pub mod Names
+pub mod Passing
 pub mod Pointing
 pub mod Reading
 pub mod Rises

@@ -32,7 +32,7 @@ pub use pointers::{
     entries_hang, gone_are_unpointed, pointers_hang, pointers_lead_home, roots_stand,
 };
 pub use rising::rising_goes_on;
-pub use telling::tests_tell;
+pub use telling::{alike_hold_the_same, holds_one, rules_pass_tests, tests_tell};
 
 #[cfg(test)]
 mod tests;

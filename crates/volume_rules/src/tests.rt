@@ -14,6 +14,9 @@ fn the_laws_can_be_called(_rt: HostRuntime) {
     pointers_lead_home();
     roots_stand();
     tests_tell();
+    rules_pass_tests();
+    holds_one();
+    alike_hold_the_same();
     rising_goes_on();
     entries_hang();
     pointers_hang();
