@@ -14,6 +14,7 @@ pub mod Pointing
 pub mod Reading
 pub mod Rises
 pub mod Roots
+pub mod SidesKept
 pub mod Switch
 pub mod Tested
 pub mod Together
