@@ -2,7 +2,8 @@
 use Rattle.hal_base.specs.Reading.{◌>>=◌}
 use Rattle.hal_base.specs.Bytes.{is_printable}
 use Rattle.hal_base.specs.Numbers.{number_of}
-use Rattle.std.specs.Prelude.{◌≡◌, ℕ, zero, suc, ◌+◌, ◌*◌, ◌&&◌, ◌||◌, Bool, true, false, nat_lt, ◌==◌, if◌then◌else◌, List, [], ◌∷◌, length, map, Option, Some, None, Result, Ok, Err, codes}
+use Rattle.std.specs.Prelude.{◌≡◌, ℕ, zero, suc, ◌+◌, ◌*◌, ◌&&◌, ◌||◌, Bool, true, false, nat_lt, ◌==◌, if◌then◌else◌, List, [], ◌∷◌}
+use Rattle.std.specs.Prelude.{length, map, Option, Some, None, Result, Ok, Err, codes}
 use Rattle.std.specs.List.{list_all, take_while}
 use Rattle.std.specs.Str.{bytes_eq}
 use Rattle.hal_base.specs.Name.{is_name, upper}
@@ -47,7 +48,9 @@ text_byte_at (b ∷ c ∷ rest) = if b == 39 then (if c == 39 then Ok (Some 39, 
 unfoldable pub text_at : List ℕ → Result (List ℕ × List ℕ) Fault
 text_at [] = Err faults.Value
 text_at (b ∷ []) = if b == 39 then Ok ([], []) else Err faults.Value
-text_at (b ∷ c ∷ rest) = if b == 39 then (if c == 39 then (text_at rest >>= λ more. Ok (39 ∷ more.0, more.1)) else Ok ([], c ∷ rest)) else (text_at (c ∷ rest) >>= λ more. Ok (b ∷ more.0, more.1))
+text_at (b ∷ c ∷ rest) =
+    if b == 39 then (if c == 39 then (text_at rest >>= λ more. Ok (39 ∷ more.0, more.1)) else Ok ([], c ∷ rest))
+    else (text_at (c ∷ rest) >>= λ more. Ok (b ∷ more.0, more.1))
 
 -- the closing quote
 abbrev pub close_at : List ℕ → Result (List ℕ × List ℕ) Fault
@@ -64,7 +67,9 @@ pair_at (a ∷ b ∷ rest) = if is_hex a && is_hex b then Some (16 * hex_value a
 unfoldable pub pairs_at : List ℕ → Result (List ℕ × List ℕ) Fault
 pairs_at [] = close_at []
 pairs_at (a ∷ []) = close_at (a ∷ [])
-pairs_at (a ∷ b ∷ rest) = if is_hex a && is_hex b then (pairs_at rest >>= λ more. Ok ((16 * hex_value a + hex_value b) ∷ more.0, more.1)) else close_at (a ∷ b ∷ rest)
+pairs_at (a ∷ b ∷ rest) =
+    if is_hex a && is_hex b then (pairs_at rest >>= λ more. Ok ((16 * hex_value a + hex_value b) ∷ more.0, more.1))
+    else close_at (a ∷ b ∷ rest)
 
 -- behind X and its quote: one byte or more
 unfoldable pub hex_at : List ℕ → Result (List ℕ × List ℕ) Fault
@@ -75,7 +80,10 @@ hex_at text = do
 unfoldable pub value_at : List ℕ → Result (Value × List ℕ) Fault
 value_at [] = Err faults.Form
 value_at (a ∷ []) = if a == 39 then (text_at [] >>= λ read. Ok (Text read.0, read.1)) else Err faults.Form
-value_at (a ∷ b ∷ rest) = if a == 39 then (text_at (b ∷ rest) >>= λ read. Ok (Text read.0, read.1)) else if upper a == 88 && b == 39 then (hex_at rest >>= λ read. Ok (Hex read.0, read.1)) else Err faults.Form
+value_at (a ∷ b ∷ rest) =
+    if a == 39 then (text_at (b ∷ rest) >>= λ read. Ok (Text read.0, read.1))
+    else if upper a == 88 && b == 39 then (hex_at rest >>= λ read. Ok (Hex read.0, read.1))
+    else Err faults.Form
 
 abbrev pub begins_blank : List ℕ → Bool
 begins_blank [] = false
@@ -83,7 +91,10 @@ begins_blank (b ∷ rest) = is_blank b
 
 -- letters, with a blank behind them
 unfoldable pub operator_word_at : List ℕ → Result (List ℕ × List ℕ) Fault
-operator_word_at text = if nat_lt 0 (length (take_while in_word text)) && list_all is_letter (map upper (take_while in_word text)) && begins_blank (past in_word text) then Ok (printed_operator (map upper (take_while in_word text)), past in_word text) else Err faults.Form
+operator_word_at text =
+    if nat_lt 0 (length (take_while in_word text)) && list_all is_letter (map upper (take_while in_word text)) && begins_blank (past in_word text)
+    then Ok (printed_operator (map upper (take_while in_word text)), past in_word text)
+    else Err faults.Form
 
 -- a run of signs, or a word
 unfoldable pub operator_at : List ℕ → Result (List ℕ × List ℕ) Fault
@@ -99,7 +110,11 @@ clause_at or text = do
 -- what stands behind a clause: a connector, which is an or or not, or none where the parenthesis closes
 unfoldable pub connector_at : List ℕ → Result (Option Bool × List ℕ) Fault
 connector_at [] = Err faults.Form
-connector_at (b ∷ rest) = if b == 41 then Ok (None, rest) else if b == 38 || b == 42 then Ok (Some false, rest) else if b == 124 || b == 43 then Ok (Some true, rest) else Err faults.Form
+connector_at (b ∷ rest) =
+    if b == 41 then Ok (None, rest)
+    else if b == 38 || b == 42 then Ok (Some false, rest)
+    else if b == 124 || b == 43 then Ok (Some true, rest)
+    else Err faults.Form
 
 unfoldable pub clause_and_connector_at : Bool → List ℕ → Result (Clause × Option Bool × List ℕ) Fault
 clause_and_connector_at or text = do
@@ -146,7 +161,9 @@ begins_ssa text = begins_blank text && begins_word (past is_blank text)
 -- there are no more SSAs than bytes
 unfoldable pub ssas_at : ℕ → List ℕ → Result (List Ssa × List ℕ) Fault
 ssas_at zero text = Ok ([], text)
-ssas_at (suc n) text = if begins_ssa text then (ssa_at (past is_blank text) >>= λ ssa. ssas_at n ssa.1 >>= λ more. Ok (ssa.0 ∷ more.0, more.1)) else Ok ([], text)
+ssas_at (suc n) text =
+    if begins_ssa text then (ssa_at (past is_blank text) >>= λ ssa. ssas_at n ssa.1 >>= λ more. Ok (ssa.0 ∷ more.0, more.1))
+    else Ok ([], text)
 
 abbrev pub is_end : List ℕ → Bool
 is_end text = list_all is_blank text
@@ -154,7 +171,9 @@ is_end text = list_all is_blank text
 -- a colon and a value, or nothing
 unfoldable pub given_at : List ℕ → Result (Option Value) Fault
 given_at [] = Ok None
-given_at (b ∷ rest) = if b == 58 then (value_at (past is_blank rest) >>= λ value. if is_end value.1 then Ok (Some value.0) else Err faults.Form) else Err faults.Form
+given_at (b ∷ rest) =
+    if b == 58 then (value_at (past is_blank rest) >>= λ value. if is_end value.1 then Ok (Some value.0) else Err faults.Form)
+    else Err faults.Form
 
 unfoldable pub call_at : List ℕ → List ℕ → Result Line Fault
 call_at session text = do
@@ -182,11 +201,20 @@ open_at text = do
   Ok (lines.Open (record { session = session.0; options = options.0; index = index }))
 
 unfoldable pub count_at : List ℕ → Result (ℕ × List ℕ) Fault
-count_at text = if is_number (take_while in_word text) then (if is_count (take_while in_word text) then Ok (number_of (take_while in_word text), past in_word text) else Err faults.Count) else Err faults.Form
+count_at text =
+    if is_number (take_while in_word text)
+    then (if is_count (take_while in_word text) then Ok (number_of (take_while in_word text), past in_word text) else Err faults.Count)
+    else Err faults.Form
 
 -- the commands that name nothing but a partition
 abbrev pub plain_command : List ℕ → Option Command
-plain_command word = if bytes_eq word (codes "START") then Some Start else if bytes_eq word (codes "PAUSE") then Some Pause else if bytes_eq word (codes "RESUME") then Some Resume else if bytes_eq word (codes "FINISH") then Some Finish else if bytes_eq word (codes "QUERY") then Some Query else None
+plain_command word =
+    if bytes_eq word (codes "START") then Some Start
+    else if bytes_eq word (codes "PAUSE") then Some Pause
+    else if bytes_eq word (codes "RESUME") then Some Resume
+    else if bytes_eq word (codes "FINISH") then Some Finish
+    else if bytes_eq word (codes "QUERY") then Some Query
+    else None
 
 abbrev pub or_form : Option Command → List ℕ → Result (Command × List ℕ) Fault
 or_form None text = Err faults.Form
@@ -194,7 +222,9 @@ or_form (Some command) text = Ok (command, text)
 
 -- the command of this word, behind its partition
 unfoldable pub command_at : List ℕ → List ℕ → Result (Command × List ℕ) Fault
-command_at word text = if bytes_eq word (codes "STEP") then (count_at (past is_blank text) >>= λ count. Ok (Step count.0, count.1)) else or_form (plain_command word) text
+command_at word text =
+    if bytes_eq word (codes "STEP") then (count_at (past is_blank text) >>= λ count. Ok (Step count.0, count.1))
+    else or_form (plain_command word) text
 
 unfoldable pub reorg_at : List ℕ → Result Line Fault
 reorg_at text = do
@@ -219,4 +249,8 @@ line_or_cause (Err fault) = lines.Bad (cause_of fault)
 
 -- the line of a text, without the text's end of line
 unfoldable pub line_of : List ℕ → Line
-line_of text = if is_silent text then lines.Silent else if nat_lt 8192 (length text) then lines.Bad 1 else if list_all is_printable text then line_or_cause (form_at text) else lines.Bad 2
+line_of text =
+    if is_silent text then lines.Silent
+    else if nat_lt 8192 (length text) then lines.Bad 1
+    else if list_all is_printable text then line_or_cause (form_at text)
+    else lines.Bad 2

@@ -48,4 +48,5 @@ number_text (Some number) = 32 ∷ decimal number
 
 -- a reply, with its line's end
 abbrev pub reply_text : Option ℕ → ℕ → Reply → List ℕ
-reply_text script number reply = line_number script number ++ 32 ∷ status_text reply.status ++ segment_text reply.seg ++ partition_text reply.part ++ number_text reply.number ++ 10 ∷ []
+reply_text script number reply =
+    line_number script number ++ 32 ∷ status_text reply.status ++ segment_text reply.seg ++ partition_text reply.part ++ number_text reply.number ++ 10 ∷ []

@@ -112,7 +112,9 @@ is_connector false b = b == 38 || b == 42
 -- from behind the parenthesis or connector up to and with the closing parenthesis
 abbrev pub SpellsClauses : List ℕ → Bool → Clause → List Clause → Type 0
 SpellsClauses text or first [] = StandsBefore text or first (41 ∷ [])
-SpellsClauses text or first (next ∷ more) = (sign : ℕ) × (rest : List ℕ) × (is_connector next.or sign ≡ true) × StandsBefore text or first (sign ∷ rest) × SpellsClauses rest next.or next more
+SpellsClauses text or first (next ∷ more) =
+    (sign : ℕ) × (rest : List ℕ)
+    × (is_connector next.or sign ≡ true) × StandsBefore text or first (sign ∷ rest) × SpellsClauses rest next.or next more
 
 abbrev pub SpellsQualification : List ℕ → List Clause → Type 0
 SpellsQualification text [] = text ≡ []
@@ -133,12 +135,16 @@ pub record SpellsSsa (text : List ℕ) (ssa : Ssa) : Type 0 where
 
 abbrev pub SpellsSsas : List ℕ → List Ssa → Type 0
 SpellsSsas text [] = text ≡ []
-SpellsSsas text (ssa ∷ more) = (room : List ℕ) × (written : List ℕ) × (rest : List ℕ) × IsRoom room × SpellsSsa written ssa × SpellsSsas rest more × (text ≡ room ++ (written ++ rest))
+SpellsSsas text (ssa ∷ more) =
+    (room : List ℕ) × (written : List ℕ) × (rest : List ℕ)
+    × IsRoom room × SpellsSsa written ssa × SpellsSsas rest more × (text ≡ room ++ (written ++ rest))
 
 -- a colon and a value, or nothing; to the end of the line
 abbrev pub SpellsGiven : List ℕ → Option Value → Type 0
 SpellsGiven text None = IsGap text
-SpellsGiven text (Some value) = (before : List ℕ) × (after : List ℕ) × (written : List ℕ) × (behind : List ℕ) × IsGap before × IsGap after × SpellsValue written value × IsGap behind × (text ≡ before ++ 58 ∷ (after ++ (written ++ behind)))
+SpellsGiven text (Some value) =
+    (before : List ℕ) × (after : List ℕ) × (written : List ℕ) × (behind : List ℕ)
+    × IsGap before × IsGap after × SpellsValue written value × IsGap behind × (text ≡ before ++ 58 ∷ (after ++ (written ++ behind)))
 
 pub record SpellsCall (text : List ℕ) (call : Call) : Type 0 where
   pub session : List ℕ
@@ -157,7 +163,9 @@ pub record SpellsCall (text : List ℕ) (call : Call) : Type 0 where
 -- an index's name, or nothing; to the end of the line
 abbrev pub SpellsIndex : List ℕ → Option (List ℕ) → Type 0
 SpellsIndex text None = IsGap text
-SpellsIndex text (Some name) = (room : List ℕ) × (written : List ℕ) × (behind : List ℕ) × IsRoom room × SpellsName written name × IsGap behind × (text ≡ room ++ (written ++ behind))
+SpellsIndex text (Some name) =
+    (room : List ℕ) × (written : List ℕ) × (behind : List ℕ)
+    × IsRoom room × SpellsName written name × IsGap behind × (text ≡ room ++ (written ++ behind))
 
 pub record SpellsOpen (text : List ℕ) (request : Open) : Type 0 where
   pub word : List ℕ
@@ -178,7 +186,9 @@ pub record SpellsOpen (text : List ℕ) (request : Open) : Type 0 where
 -- the groups of a STEP, which no other command has
 abbrev pub SpellsCount : List ℕ → Command → Type 0
 SpellsCount text Start = text ≡ []
-SpellsCount text (Step groups) = (room : List ℕ) × (digits : List ℕ) × IsRoom room × (is_number digits ≡ true) × (is_count digits ≡ true) × (groups ≡ number_of digits) × (text ≡ room ++ digits)
+SpellsCount text (Step groups) =
+    (room : List ℕ) × (digits : List ℕ)
+    × IsRoom room × (is_number digits ≡ true) × (is_count digits ≡ true) × (groups ≡ number_of digits) × (text ≡ room ++ digits)
 SpellsCount text Pause = text ≡ []
 SpellsCount text Resume = text ≡ []
 SpellsCount text Finish = text ≡ []

@@ -1,6 +1,6 @@
 -- Blanks, words, operators and digits.
 use Rattle.hal_base.specs.Numbers.{number_of}
-use Rattle.std.specs.Prelude.{ℕ, ◌+◌, ◌-◌, ◌*◌, ◌&&◌, ◌||◌, Bool, false, nat_le, nat_lt, ◌==◌, if◌then◌else◌, List, [], ◌∷◌, length, drop, codes}
+use Rattle.std.specs.Prelude.{ℕ, ◌-◌, ◌&&◌, ◌||◌, Bool, false, nat_le, nat_lt, ◌==◌, if◌then◌else◌, List, [], ◌∷◌, length, drop, codes}
 use Rattle.std.specs.List.{list_all, prefix_len}
 use Rattle.std.specs.Str.{bytes_eq}
 use Rattle.hal_base.specs.Name.{is_name_byte, is_digit, upper}
@@ -26,7 +26,6 @@ is_letter_or_digit b = is_letter b || is_digit b
 abbrev pub is_word : List ℕ → Bool
 is_word word = nat_lt 0 (length word) && nat_le (length word) 8 && list_all is_letter_or_digit word
 
--- the number that digits write
 -- 1 to 1,000 groups, in 1 to 4 digits
 abbrev pub is_count : List ℕ → Bool
 is_count digits = nat_le (length digits) 4 && nat_le 1 (number_of digits) && nat_le (number_of digits) 1000
@@ -44,7 +43,15 @@ hex_value b = if nat_le b 57 then b - 48 else upper b - 55
 
 -- an operator as it is printed: a known one by its kind, any other as it stands
 abbrev pub printed_operator : List ℕ → List ℕ
-printed_operator op = if bytes_eq op (codes "EQ") then codes "=" else if bytes_eq op (codes "GT") then codes ">" else if bytes_eq op (codes "LT") then codes "<" else if bytes_eq op (codes "GE") then codes ">=" else if bytes_eq op (codes "=>") then codes ">=" else if bytes_eq op (codes "LE") then codes "<=" else if bytes_eq op (codes "=<") then codes "<=" else op
+printed_operator op =
+    if bytes_eq op (codes "EQ") then codes "="
+    else if bytes_eq op (codes "GT") then codes ">"
+    else if bytes_eq op (codes "LT") then codes "<"
+    else if bytes_eq op (codes "GE") then codes ">="
+    else if bytes_eq op (codes "=>") then codes ">="
+    else if bytes_eq op (codes "LE") then codes "<="
+    else if bytes_eq op (codes "=<") then codes "<="
+    else op
 
 -- PCB and REORG are no names of sessions
 abbrev pub is_reserved : List ℕ → Bool

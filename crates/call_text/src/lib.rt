@@ -20,7 +20,7 @@ mod words;
 
 pub use line::{Call, Clause, Command, Line, Open, Ssa, Value};
 pub use printing::print_line;
-pub use reading::{one_cause, one_reading, read_line};
+pub use reading::{lines_are_spelled, one_cause, one_reading, read_line};
 pub use reply::{PartOut, Reply, SegOut};
 pub use replying::reply_line;
 

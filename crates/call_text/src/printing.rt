@@ -2,7 +2,9 @@
 ghost use Rattle.std.specs.Prelude.{◌≡◌, ◌≤◌, ◌++◌, ℕ, List, length, OnOk, IfOk};
 ghost use Rattle.std.specs.List.{list_all, flat_map};
 ghost use Rattle.call_text.specs.Printing.{printed_value};
-ghost use Rattle.call_text.specs.Printed.{is_sign, operator_text, bytes_of, clause_text, connector, joined_clause, clauses_text, codes_text, ssa_text, next_ssa, given_text, call_text, index_text, open_text, command_word, count_text, reorg_text, printed_line, HasForm};
+ghost use Rattle.call_text.specs.Printed.{is_sign, operator_text, bytes_of, clause_text, connector, joined_clause, clauses_text, codes_text};
+ghost use Rattle.call_text.specs.Printed.{ssa_text, next_ssa, given_text, call_text, index_text, open_text, command_word, count_text};
+ghost use Rattle.call_text.specs.Printed.{reorg_text, printed_line, HasForm};
 ghost use Rattle.call_text.specs.Plain.{plain_line, IsPlain};
 ghost use Rattle.call_text.specs.Spelling.{Spells};
 

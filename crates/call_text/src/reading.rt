@@ -197,7 +197,8 @@ fn read(alloc: Global, line: &[u8]) -> Result<Line, Memory>
     }
 }
 
-/// Reads a line of a script, without its end. Each text is one line: silent, a form, or bad with its cause.
+/// Reads a line of a script, without its end. Each text is one line: silent, a form, or bad with its cause. Which
+/// one, `line_of` says from left to right, so that a caller can compute it of a text.
 pub fn read_line(alloc: Global, line: &[u8]) -> Result<Line, Memory>
     // What is read is spelled so.
     ensures found { IfOk result (λ read. HasForm read → Spells line.now read) }
@@ -205,9 +206,18 @@ pub fn read_line(alloc: Global, line: &[u8]) -> Result<Line, Memory>
     ensures only { (form : Line) → Spells line.now form → IfOk result (λ read. read ≡ form) }
     // Which cause it is, where the text spells no line.
     ensures cause { IfOk result (λ read. IsCaused line.now read) }
+    // Which line each text is.
+    ensures each { IfOk result (λ read. read ≡ line_of line.now) }
 {
     read(alloc, line)
 }
+
+/// The line of a text is what the text spells, or a bad line with the cause of its first fault.
+pub fn lines_are_spelled()
+    ensures found { (text : List ℕ) → HasForm (line_of text) → Spells text (line_of text) }
+    ensures only { (text : List ℕ) (form : Line) → Spells text form → line_of text ≡ form }
+    ensures cause { (text : List ℕ) → IsCaused text (line_of text) }
+{}
 
 /// A text spells one line at most.
 pub fn one_reading()

@@ -15,3 +15,6 @@ pub mod SpanLaws
 pub mod EntryLaws
 pub mod ExampleLaws
 pub mod RuleLaws
+pub mod Sequences
+pub mod Within
+pub mod InsertionsWithin

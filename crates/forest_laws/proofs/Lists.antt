@@ -160,7 +160,7 @@ suffix_cons q x xs =
     ∙ ap (λ n. cond (prefix_len q (reverse xs) == n) (n + cond (q x) 1 0) (prefix_len q (reverse xs))) (length-reverse xs)
 
 -- the last of the rest is the last of all
-last_behind : (test : Row → Bool) (x : Row) (xs : List Row) → LastOf test xs → LastOf test (x ∷ xs)
+pub last_behind : (test : Row → Bool) (x : Row) (xs : List Row) → LastOf test xs → LastOf test (x ∷ xs)
 last_behind test x xs l =
     let q : Row → Bool = λ y. not (test y) in
     let s = suffix_len-le-length q xs in
@@ -178,7 +178,7 @@ last_behind test x xs l =
       through = omega (arith, same, s, t);
     }
 
-none_behind : (test : Row → Bool) (x : Row) (xs : List Row) (b : Bool) → test x ≡ b → NoneOf test xs → LastOf test (x ∷ xs) ⊎ NoneOf test (x ∷ xs)
+pub none_behind : (test : Row → Bool) (x : Row) (xs : List Row) (b : Bool) → test x ≡ b → NoneOf test xs → LastOf test (x ∷ xs) ⊎ NoneOf test (x ∷ xs)
 none_behind test x xs b e n =
     let q : Row → Bool = λ y. not (test y) in
     let s = suffix_len-le-length q xs in

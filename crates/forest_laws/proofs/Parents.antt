@@ -81,13 +81,19 @@ pub row_known : (types : List SegType) (row : Row) → has_length types row ≡ 
 row_known types row h = long_known types row.code (length row.content) h
 
 -- the path of a row among the rows
-pub path_among : (schema : Schema) (front behind : List Row) (row : Row) → Parts schema (front ++ row ∷ behind) → is_path schema.types None (path_with (row_level schema.types) (path_after (row_level schema.types) [] front) row) ≡ true
-path_among schema front behind row parts =
+abbrev pub Below : Schema → List Row → Type 0
+Below schema rows = list_all (λ p. is_path schema.types None p.0) (paths_of schema.types rows) ≡ true
+
+pub path_in : (schema : Schema) (front behind : List Row) (row : Row) → Below schema (front ++ row ∷ behind) → is_path schema.types None (path_with (row_level schema.types) (path_after (row_level schema.types) [] front) row) ≡ true
+path_in schema front behind row placed =
     let level = row_level schema.types in
     let P : List Row × Row → Bool = λ p. is_path schema.types None p.0 in
     let path = path_with level (path_after level [] front) row in
     all_middle P (with_paths level [] front) (with_paths level path behind) (path, row)
-    (subst (λ (l : List (List Row × Row)). list_all P l ≡ true) (with_append level [] front (row ∷ behind)) parts.placed)
+    (subst (λ (l : List (List Row × Row)). list_all P l ≡ true) (with_append level [] front (row ∷ behind)) placed)
+
+pub path_among : (schema : Schema) (front behind : List Row) (row : Row) → Parts schema (front ++ row ∷ behind) → is_path schema.types None (path_with (row_level schema.types) (path_after (row_level schema.types) [] front) row) ≡ true
+path_among schema front behind row parts = path_in schema front behind row parts.placed
 
 -- the parent of a row, among the rows before it
 pub record ParentOf (schema : Schema) (front : List Row) (row : Row) : Type 0 where
@@ -103,11 +109,11 @@ root_row types row h =
     let a = and_parts (row.code == 1) (is_none row.parent) h in
     (eqb-true row.code 1 a.0, none_is row.parent a.1)
 
-pub parent_before : (schema : Schema) (front behind : List Row) (row : Row) → Parts schema (front ++ row ∷ behind) → IsRootRow row ⊎ ParentOf schema front row
-parent_before schema front behind row parts =
+pub parent_in : (schema : Schema) (front behind : List Row) (row : Row) → Below schema (front ++ row ∷ behind) → IsRootRow row ⊎ ParentOf schema front row
+parent_in schema front behind row placed =
     let level = row_level schema.types in
     let test : Row → Bool = λ above. nat_lt (level above) (level row) in
-    by (path_end schema.types None _ row (path_among schema front behind row parts))
+    by (path_end schema.types None _ row (path_in schema front behind row placed))
   where
     by_kept : (q : Row) → is_child_of schema.types (Some q) row ≡ true → Kept (row_level schema.types) q front ⊎ (Among q [] × (list_all (λ y. nat_lt (row_level schema.types q) (row_level schema.types y)) front ≡ true)) → ParentOf schema front row
     by_kept q child (inl k) = record { above = q; kept = k; child = child }
@@ -120,3 +126,6 @@ parent_before schema front behind row parts =
         let q = more.0 in
         let among = among_filter (λ above. nat_lt (level above) (level row)) q (path_after level [] front) more.1 in
         inr (by_kept q more.2 (carried level q [] front among.0))
+
+pub parent_before : (schema : Schema) (front behind : List Row) (row : Row) → Parts schema (front ++ row ∷ behind) → IsRootRow row ⊎ ParentOf schema front row
+parent_before schema front behind row parts = parent_in schema front behind row parts.placed

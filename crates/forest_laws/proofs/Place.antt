@@ -31,7 +31,7 @@ starts : (level : Row → ℕ) (new : Row) (back : List Row) → ((x : Row) (mor
 starts level new [] h = refl
 starts level new (x ∷ back) h = let e = h x back refl in grind (arith, e)
 
-inserted_at : (schema : Schema) (rows front back : List Row) (new : Row) → rows ≡ front ++ back → insertion_place schema rows new ≡ length front → inserted schema rows new ≡ front ++ new ∷ back
+pub inserted_at : (schema : Schema) (rows front back : List Row) (new : Row) → rows ≡ front ++ back → insertion_place schema rows new ≡ length front → inserted schema rows new ≡ front ++ new ∷ back
 inserted_at schema rows front back new e f =
     ap (λ n. insert rows n new) f ∙ ap (λ (l : List Row). insert l (length front) new) e ∙ insert_between front back new
 

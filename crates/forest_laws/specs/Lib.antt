@@ -4,3 +4,4 @@ pub mod Spans
 pub mod Entries
 pub mod Examples
 pub mod Places
+pub mod Joining

@@ -4,6 +4,7 @@
 
 mod entries;
 mod examples;
+mod joining;
 mod keeping;
 mod paths;
 mod places;
@@ -11,6 +12,10 @@ mod spans;
 
 pub use entries::{entries_are_in_key_order, entries_are_of_sources};
 pub use examples::{empty_is_forest, example_is_forest, example_meets_the_laws};
+pub use joining::{
+    changes_stay_within, forests_are_sequences, insertions_stay_within, joining_is_an_example,
+    orders_join, sequences_join,
+};
 pub use keeping::{cut_keeps, insertion_keeps, replacement_keeps};
 pub use paths::{
     keys_are_long, paths_append, paths_are_ancestries, paths_are_by_parents, paths_begin_anew,

@@ -6,6 +6,12 @@ fn the_laws_can_be_called(_rt: HostRuntime) {
     empty_is_forest();
     example_is_forest();
     example_meets_the_laws();
+    forests_are_sequences();
+    joining_is_an_example();
+    orders_join();
+    sequences_join();
+    changes_stay_within();
+    insertions_stay_within();
     insertion_keeps();
     cut_keeps();
     replacement_keeps();

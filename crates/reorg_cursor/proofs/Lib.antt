@@ -4,3 +4,5 @@ pub mod Grouping
 pub mod Marks
 pub mod RootOrder
 pub mod UnitLemmas
+pub mod Spelled
+pub mod Taken

@@ -108,7 +108,8 @@ place_named schema name = position (λ part. bytes_eq part.name name) schema.par
 -- the event at a partition with its state; there is one state a partition
 abbrev pub outcome_at : Schema → List Row → List PartState → ℕ → List ℕ → Command → ℕ → Option PartState → Outcome
 outcome_at schema rows states free name command place None = refuses states (plainly 1)
-outcome_at schema rows states free name command place (Some s) = refused_or_does (refusal_of schema place rows free s command) schema place rows states s name command
+outcome_at schema rows states free name command place (Some s) =
+    refused_or_does (refusal_of schema place rows free s command) schema place rows states s name command
 
 abbrev pub outcome_in : Schema → List Row → List PartState → ℕ → List ℕ → Command → Option ℕ → Outcome
 outcome_in schema rows states free name command None = refuses states (plainly 1)
@@ -119,8 +120,11 @@ abbrev pub outcome_of : Schema → List Row → List PartState → ℕ → List 
 outcome_of schema rows states free name command = outcome_in schema rows states free name command (place_named schema name)
 
 -- what stands in its place until the engine can do it: `+B 9`, and nothing changes
+abbrev pub unbuilt_reply : Reply
+unbuilt_reply = record { status = codes "+B"; seg = None; part = None; number = Some 9 }
+
 abbrev pub not_built : List PartState → Outcome
-not_built states = record { states = states; reply = Some (record { status = codes "+B"; seg = None; part = None; number = Some 9 }); need = 0 }
+not_built states = record { states = states; reply = Some unbuilt_reply; need = 0 }
 
 abbrev pub outcome_where : Bool → Schema → List Row → List PartState → ℕ → List ℕ → Command → Outcome
 outcome_where built schema rows states free name command = if built then outcome_of schema rows states free name command else not_built states

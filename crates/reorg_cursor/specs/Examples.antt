@@ -155,12 +155,14 @@ p2 command = (40, codes "P2", command)
 
 pub record AreExamples : Type 0 where
   pub forests : (is_forest kdb two_records ≡ true) × (is_forest kdb seventeen ≡ true) × (is_forest hdb four_records ≡ true)
-  pub fit : (state_fits kdb 0 (new_state 1) ≡ true) × (state_fits kdb 0 (state_of 1 1 65 67 (At (codes "200"))) ≡ true) × (state_fits hdb 0 (state_of 1 2 77 67 (Anchors 3)) ≡ true)
+  pub fit : (state_fits kdb 0 (new_state 1) ≡ true)
+      × (state_fits kdb 0 (state_of 1 1 65 67 (At (codes "200"))) ≡ true) × (state_fits hdb 0 (state_of 1 2 77 67 (Anchors 3)) ≡ true)
   -- a step of more groups than are left takes those, and one with none left changes nothing
   pub steps : replies_of kdb two_records (new_state 1 ∷ new_state 2 ∷ []) (p1 Start ∷ p1 (Step 1000) ∷ p1 (Step 1) ∷ p1 Query ∷ [])
       ≡ shows 1 65 67 Front ∷ shows 1 65 67 (At (codes "200")) ∷ shows 1 65 67 (At (codes "200")) ∷ shows 1 65 67 (At (codes "200")) ∷ []
   -- a record with two segments reserves three blocks
-  pub wanting : replies_of kdb two_records (new_state 1 ∷ new_state 2 ∷ []) (p1 Start ∷ (2, codes "P1", Step 1) ∷ (3, codes "P1", Step 1) ∷ (1, codes "P1", Finish) ∷ [])
+  pub wanting : replies_of kdb two_records (new_state 1 ∷ new_state 2 ∷ [])
+      (p1 Start ∷ (2, codes "P1", Step 1) ∷ (3, codes "P1", Step 1) ∷ (1, codes "P1", Finish) ∷ [])
       ≡ shows 1 65 67 Front ∷ wants 3 ∷ shows 1 65 67 (At (codes "100")) ∷ wants 2 ∷ []
   -- each refusal by the state: of an idle partition, and of none
   pub idle : replies_of kdb two_records (new_state 1 ∷ new_state 2 ∷ []) ((40, codes "P9", Start) ∷ p1 (Step 1) ∷ p1 Pause ∷ p1 Resume ∷ p1 Finish ∷ [])
@@ -168,7 +170,8 @@ pub record AreExamples : Type 0 where
   -- of an active one, and of a paused one
   pub active : replies_of kdb two_records (new_state 1 ∷ new_state 2 ∷ []) (p1 Start ∷ p1 Start ∷ p1 Resume ∷ p2 Pause ∷ [])
       ≡ shows 1 65 67 Front ∷ says 2 ∷ says 2 ∷ says 3 ∷ []
-  pub paused : replies_of kdb two_records (new_state 1 ∷ new_state 2 ∷ []) (p1 Start ∷ p1 Pause ∷ p1 Pause ∷ p1 (Step 1) ∷ p1 Finish ∷ p1 Start ∷ p1 Resume ∷ [])
+  pub paused : replies_of kdb two_records (new_state 1 ∷ new_state 2 ∷ [])
+      (p1 Start ∷ p1 Pause ∷ p1 Pause ∷ p1 (Step 1) ∷ p1 Finish ∷ p1 Start ∷ p1 Resume ∷ [])
       ≡ shows 1 65 67 Front ∷ shows 1 65 80 Front ∷ says 4 ∷ says 4 ∷ says 4 ∷ says 2 ∷ shows 1 65 67 Front ∷ []
   pub last_number : replies_of kdb two_records (state_of 1 65535 65 73 Front ∷ new_state 2 ∷ []) (p1 Start ∷ []) ≡ says 5 ∷ []
   -- seventeen records are a unit of sixteen, a unit of one, and the switch
@@ -178,4 +181,5 @@ pub record AreExamples : Type 0 where
   pub anchors : replies_of hdb four_records (state_of 1 2 77 73 Front ∷ []) (p1 Start ∷ p1 (Step 1) ∷ p1 (Step 2) ∷ p1 (Step 1) ∷ p1 Finish ∷ [])
       ≡ shows 2 77 67 Front ∷ shows 2 77 67 (Anchors 1) ∷ shows 2 77 67 (Anchors 3) ∷ shows 2 77 67 (Anchors 3) ∷ shows 3 65 73 Front ∷ []
   -- the records of an anchor are one group: with two of them a unit of one group reserves for both
-  pub one_anchor : replies_of hdb four_records (state_of 1 2 77 67 (Anchors 2) ∷ []) ((3, codes "P1", Step 1) ∷ (4, codes "P1", Step 1) ∷ []) ≡ wants 4 ∷ shows 2 77 67 (Anchors 3) ∷ []
+  pub one_anchor : replies_of hdb four_records (state_of 1 2 77 67 (Anchors 2) ∷ []) ((3, codes "P1", Step 1) ∷ (4, codes "P1", Step 1) ∷ [])
+      ≡ wants 4 ∷ shows 2 77 67 (Anchors 3) ∷ []

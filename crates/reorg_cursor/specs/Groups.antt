@@ -1,7 +1,8 @@
 -- The groups in which an online reorganization copies the records of a partition, and its cursor. A group is one record
 -- (PHIDAM), or the records of one root anchor that has any (PHDAM). IMS: unit of reorganization; cursor of an integrated
 -- HALDB online reorganization.
-use Rattle.std.specs.Prelude.{ℕ, ◌+◌, ◌*◌, ◌==◌, nat_lt, Bool, false, not, ◌&&◌, if◌then◌else◌, List, [], ◌∷◌, length, take, Option, None, Some, filter, fold, flat_map, count_by}
+use Rattle.std.specs.Prelude.{ℕ, ◌+◌, ◌*◌, ◌==◌, nat_lt, Bool, false, not, ◌&&◌, if◌then◌else◌, List, [], ◌∷◌, Option, None, Some}
+use Rattle.std.specs.Prelude.{length, take, filter, fold, flat_map, count_by}
 use Rattle.std.specs.List.{list_any, slice_get}
 use Rattle.std.specs.Option.{option_map_or}
 use Rattle.std.specs.Ordering.{is_le}

@@ -17,7 +17,8 @@ pub record Stands (schema : Schema) (place : ℕ) (rows : List Row) (s : PartSta
 -- A unit takes the first groups of those left: what is behind the cursor then is just the records of the others.
 pub record TakesFirst (schema : Schema) (place : ℕ) (rows : List Row) (k : ℕ) (s : PartState) : Type 0 where
   pub groups : groups_left schema place rows (stepped schema place rows k s).cursor ≡ drop k (groups_left schema place rows s.cursor)
-  pub records : filter (is_left schema (stepped schema place rows k s).cursor) (roots_at schema place rows) ≡ flat_map members (drop k (groups_left schema place rows s.cursor))
+  pub records : filter (is_left schema (stepped schema place rows k s).cursor) (roots_at schema place rows)
+      ≡ flat_map members (drop k (groups_left schema place rows s.cursor))
 
 abbrev pub UnitsTakeFirst : Type 0
 UnitsTakeFirst = (schema : Schema) (place : ℕ) (rows : List Row) (s : PartState) (k : ℕ) → Stands schema place rows s → TakesFirst schema place rows k s
@@ -32,7 +33,8 @@ pub record Reaches (schema : Schema) (place : ℕ) (rows : List Row) (sizes : Li
   pub all : length (groups_left schema place rows s.cursor) ≤ sum sizes → groups_left schema place rows (stepped_by schema place rows sizes s).cursor ≡ []
 
 abbrev pub UnitsReachOneEnd : Type 0
-UnitsReachOneEnd = (schema : Schema) (place : ℕ) (rows : List Row) (s : PartState) (sizes : List ℕ) → Stands schema place rows s → unit_refusal s ≡ None → Reaches schema place rows sizes s
+UnitsReachOneEnd = (schema : Schema) (place : ℕ) (rows : List Row) (s : PartState) (sizes : List ℕ)
+    → Stands schema place rows s → unit_refusal s ≡ None → Reaches schema place rows sizes s
 
 -- The cursor only rises: what is at or before it stays there.
 abbrev pub CursorsRise : Type 0
@@ -52,8 +54,10 @@ StatesFit = (schema : Schema) (place : ℕ) (rows : List Row) (s : PartState) �
 
 -- An event of FINISH that isn't the last leaves fewer groups, so that a last one comes; that one ends the reorganization.
 pub record FinishFalls (schema : Schema) (place : ℕ) (rows : List Row) (s : PartState) : Type 0 where
-  pub fewer : are_all_done schema place rows s.cursor ≡ false → length (groups_left schema place rows (finished schema place rows s).cursor) < length (groups_left schema place rows s.cursor)
-  pub sixteen : are_all_done schema place rows s.cursor ≡ false → groups_left schema place rows (finished schema place rows s).cursor ≡ drop 16 (groups_left schema place rows s.cursor)
+  pub fewer : are_all_done schema place rows s.cursor ≡ false
+      → length (groups_left schema place rows (finished schema place rows s).cursor) < length (groups_left schema place rows s.cursor)
+  pub sixteen : are_all_done schema place rows s.cursor ≡ false
+      → groups_left schema place rows (finished schema place rows s).cursor ≡ drop 16 (groups_left schema place rows s.cursor)
   pub ends : are_all_done schema place rows s.cursor ≡ true → finished schema place rows s ≡ ended s
 
 abbrev pub FinishEnds : Type 0
@@ -61,4 +65,5 @@ FinishEnds = (schema : Schema) (place : ℕ) (rows : List Row) (s : PartState) �
 
 -- The cursor behind records is that behind the last of them.
 abbrev pub CursorsAreOfTheLast : Type 0
-CursorsAreOfTheLast = (schema : Schema) (cursor : Cursor) (roots : List Row) → cursor_after schema cursor roots ≡ cursor_behind schema cursor (last_key schema roots)
+CursorsAreOfTheLast = (schema : Schema) (cursor : Cursor) (roots : List Row)
+    → cursor_after schema cursor roots ≡ cursor_behind schema cursor (last_key schema roots)

@@ -3,5 +3,8 @@ pub mod Events
 pub mod Examples
 pub mod Groups
 pub mod Laws
+pub mod LineLaws
 pub mod Lines
+pub mod Scripts
 pub mod State
+pub mod Taking

@@ -48,7 +48,11 @@ pub record LeadsBy {S : Type 0} (holder : Holder S) (s : S) (event : Event S) (o
 -- a language with REORG lines
 abbrev pub with_reorg : {S : Type 0} → Bool → Schema → Holder S → Language S → Language S
 with_reorg built schema holder others = record {
-  reply = λ s asked. option_map_or (λ asks. said_of asked (outcome_for built schema holder s asked.free asks).reply) (asked_by (line_of asked.line)) (others.reply s asked);
-  leads = λ s event. MatchOption (asked_by (line_of event.asked.line)) (others.leads s event) (λ asks. LeadsBy holder s event (outcome_for built schema holder s event.asked.free asks));
-  need = λ s event. option_map_or (λ asks. (outcome_for built schema holder s event.asked.free asks).need) (asked_by (line_of event.asked.line)) (others.need s event);
+  reply = λ s asked.
+      option_map_or (λ asks. said_of asked (outcome_for built schema holder s asked.free asks).reply) (asked_by (line_of asked.line)) (others.reply s asked);
+  leads = λ s event.
+      MatchOption (asked_by (line_of event.asked.line)) (others.leads s event)
+      (λ asks. LeadsBy holder s event (outcome_for built schema holder s event.asked.free asks));
+  need = λ s event.
+      option_map_or (λ asks. (outcome_for built schema holder s event.asked.free asks).need) (asked_by (line_of event.asked.line)) (others.need s event);
 }

@@ -1,6 +1,7 @@
 use crate::{
-    Refusal, end, groups_asked, is_done, move_cursor, pause, reorg_lines_leave_the_rest, resume,
-    start,
+    Refusal, end, groups_asked, is_done, move_cursor, other_lines_are_passed, pause,
+    reorg_lines_leave_the_rest, resume, scripts_are_runs, spelled_lines_are_events, start,
+    unbuilt_lines_are_refused,
 };
 use call_text::Command;
 use hal_base::{Cursor, Key, PartState};
@@ -74,5 +75,9 @@ fn a_unit_moves_the_cursor_behind_its_last_record(rt: HostRuntime) -> Result<(),
     assert_eq!(rt; groups_asked(Command::Finish), 16);
     assert_eq!(rt; groups_asked(Command::Step(1000)), 1000);
     reorg_lines_leave_the_rest::<u8, u8>();
+    spelled_lines_are_events::<u8>();
+    other_lines_are_passed::<u8>();
+    unbuilt_lines_are_refused::<u8>();
+    scripts_are_runs::<u8>();
     Ok(())
 }

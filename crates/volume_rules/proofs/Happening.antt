@@ -3,7 +3,7 @@ use Rattle.std.proofs.Common.{◌≡◌, ℕ, ◌==◌, Bool, true, false, cond,
 use Rattle.std.specs.Prelude.{codes, filter}
 use Rattle.std.specs.List.{list_all}
 use Rattle.std.specs.Str.{bytes_eq}
-use Rattle.std.proofs.lemmas.Bool.{eqb-true, or_right}
+use Rattle.std.proofs.lemmas.Bool.{eqb-true, eq-eqb, or_right}
 use Rattle.std.proofs.lemmas.Slice.Eq.{bytes_eq-Decides}
 use Rattle.hal_base.specs.declared.place.Cursor.TheVariants.{At}
 use Rattle.hal_schema.specs.Facts.{SchemasAreKept}
@@ -13,17 +13,18 @@ use Rattle.volume_rules.specs.View.{Home, Segment, View, generation_of, generati
 use Rattle.volume_rules.specs.Target.{Pointer, bears, same_pointer, is_among}
 use Rattle.volume_rules.specs.Tests.{at_each_home}
 use Rattle.volume_rules.specs.Delta.{Delta, after}
-use Rattle.volume_rules.specs.Events.{IsEvent, is_moved, MayBeCopied}
+use Rattle.volume_rules.specs.Events.{IsEvent, is_moved, MayBeCopied, switch, IsEmptied}
 use Rattle.volume_rules.specs.Volume.{pointers_of, forest_of}
 use Rattle.volume_rules.specs.Hanging.{record_key}
-use Rattle.volume_rules.specs.Examples.{home, cell, r1, homes_of, idle_cells, idle_view, idle_volume, is_indexed, rows_at, active_cells}
-use Rattle.volume_rules.specs.Applied.{idle_pointers, first_moves, start, begun, first_unit, copied, heal, healed_pointers, new_root, with_new_root, other_content, first_span, without_span, Keeps, CanHappen}
+use Rattle.volume_rules.specs.Examples.{home, cell, r1, homes_of, keys_of, first_part, active, idle_cells, idle_view, idle_volume, is_indexed, rows_at, active_cells}
+use Rattle.volume_rules.specs.Applied.{idle_pointers, first_moves, start, begun, first_unit, copied, heal, healed_pointers, new_root, with_new_root, other_content, first_span, without_span, emptied_cells, emptied_list, emptied, Keeps, CanHappen}
 use Rattle.volume_rules.proofs.Calls.{insertions_are_lawful, replacements_are_lawful, deletions_are_lawful, turns_are_lawful, reorganizations_turn}
-use Rattle.volume_rules.proofs.ExamplesKept.{cells_cover, are_kept}
+use Rattle.volume_rules.proofs.ExamplesKept.{cells_cover, covers, are_kept}
 use Rattle.volume_rules.proofs.Hanging.{pointers_hang}
 use Rattle.volume_rules.proofs.Homing.{each_at}
 use Rattle.volume_rules.proofs.Leading.{at_each}
-use Rattle.volume_rules.proofs.Tested.{at_this}
+use Rattle.volume_rules.proofs.Switch.{switches_are_lawful}
+use Rattle.volume_rules.proofs.Tested.{at_this, tests_tell}
 use Rattle.volume_rules.proofs.Together.{deltas_keep_rules}
 use Rattle.volume_rules.proofs.Units.{units_are_lawful}
 
@@ -75,6 +76,20 @@ may_be_copied kept sources = record {
     asked true t h e = h
     asked false t h e = cc
 
+-- the state before a switch
+emptied_kept : Keeps emptied healed_pointers
+emptied_kept = tests_tell _ _ _ _ (homes_of emptied_cells) (keys_of emptied_list) (covers first_part (active 1 (codes "300")) emptied_cells emptied_list) refl
+
+is_emptied : IsEmptied emptied
+is_emptied home s stands at =
+    none s.copied (home.number == 1)
+    (at_this emptied (λ home s. s.copied || not (home.number == 1)) (homes_of emptied_cells) refl home s stands.here (cells_cover emptied_cells home s stands.here)) stands.uncopied (eq-eqb home.number 1 at)
+  where
+    none : (copied input : Bool) → (copied || not input) ≡ true → copied ≡ false → input ≡ true → ⊥
+    none true input h c i = cc
+    none false true h c i = cc
+    none false false h c i = cc
+
 abbrev gone : List Home
 gone = home 1 16 ∷ home 1 48 ∷ home 1 96 ∷ home 1 80 ∷ []
 
@@ -104,6 +119,8 @@ can_happen kept sources =
                 not_true (bears idle_view p.eps.name p.code home)
                 (each_at (λ h. not (bears idle_view p.eps.name p.code h)) gone (at_each (λ p. list_all (λ h. not (bears idle_view p.eps.name p.code h)) gone) without_span refl p on) home out);
           }) idle refl) idle;
+      all_copied = emptied_kept;
+      switches = kept_by emptied (switch emptied) healed_pointers healed_pointers (switches_are_lawful types is_indexed emptied healed_pointers healed_pointers refl is_emptied emptied_kept refl) emptied_kept;
     }
   where
     changed : (s : Segment) → idle_view.segments (home 1 16) ≡ Some s → segment_key example_schema.types (record s { content = codes "001zz" }) ≡ segment_key example_schema.types s

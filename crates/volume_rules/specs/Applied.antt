@@ -1,15 +1,16 @@
 -- Events that there are, so that no law has a condition that can't be met: on the idle example a reorganization begins and
--- copies the first record, and a get heals; and a segment comes, changes and goes.
-use Rattle.std.specs.Prelude.{ℕ, List, [], ◌∷◌, codes}
+-- copies the first record, and a get heals; a segment comes, changes and goes; and where all records are copied it ends.
+use Rattle.std.specs.Prelude.{ℕ, List, [], ◌∷◌, None, Some, codes}
 use Rattle.hal_base.specs.declared.place.Cursor.TheVariants.{At}
 use Rattle.forest_laws.specs.Examples.{example_schema}
 use Rattle.volume_rules.specs.View.{View}
 use Rattle.volume_rules.specs.Target.{Pointer}
 use Rattle.volume_rules.specs.Rules.{KeepsRules}
 use Rattle.volume_rules.specs.Delta.{Delta, after}
-use Rattle.volume_rules.specs.Events.{Move, insertion, replacement, deletion, turned, started, unit}
+use Rattle.volume_rules.specs.Events.{Move, insertion, replacement, deletion, turned, started, unit, switch}
 use Rattle.volume_rules.specs.Volume.{pointers_into}
-use Rattle.volume_rules.specs.Examples.{home, name, cell, eps, rows_at, idle_cells, idle_view, idle_volume, active_cells, is_indexed}
+use Rattle.volume_rules.specs.Examples.{Placed, ListRow, home, name, cell, old_cell, placed, list_row, eps, rows_at, view_of, first_part, active, is_indexed}
+use Rattle.volume_rules.specs.Examples.{r1, c1, g1, g2, r3, idle_cells, idle_view, idle_volume, active_cells}
 
 abbrev pub pointer : ℕ → List ℕ → ℕ → ℕ → ℕ → Pointer
 pointer code root number addr born = record { eps = eps 1 number addr (name 1 1 born); root = root; code = code }
@@ -59,6 +60,22 @@ first_span = deletion idle_view (home 1 16 ∷ home 1 48 ∷ home 1 96 ∷ home 
 abbrev pub without_span : List Pointer
 without_span = pointer 1 (codes "300") 1 128 128 ∷ []
 
+-- all records are in the output, and the pointers as they were before
+abbrev pub emptied_cells : List Placed
+emptied_cells =
+    placed (home 2 16) (cell 1 r1 (codes "001aa")) None ∷ placed (home 2 32) (cell 2 c1 (codes "01xx")) (Some r1)
+    ∷ placed (home 2 64) (cell 3 g2 (codes "g2")) (Some c1) ∷ placed (home 2 96) (cell 3 g1 (codes "g1")) (Some c1)
+    ∷ placed (home 2 112) (cell 1 r3 (codes "300cc")) None
+    ∷ placed (home 1 16) (old_cell 1 r1 (codes "001aa")) None ∷ placed (home 1 48) (old_cell 2 c1 (codes "01xx")) None
+    ∷ placed (home 1 96) (old_cell 3 g2 (codes "g2")) None ∷ placed (home 1 80) (old_cell 3 g1 (codes "g1")) None
+    ∷ placed (home 1 128) (old_cell 1 r3 (codes "300cc")) None ∷ []
+
+abbrev pub emptied_list : List ListRow
+emptied_list = list_row r1 1 (home 2 16) ∷ list_row c1 2 (home 2 32) ∷ list_row r3 1 (home 2 112) ∷ []
+
+abbrev pub emptied : View
+emptied = view_of first_part (active 1 (codes "300")) emptied_cells emptied_list
+
 abbrev pub Keeps : View → List Pointer → Type 0
 Keeps view pointers = KeepsRules example_schema.types is_indexed view pointers
 
@@ -69,3 +86,5 @@ pub record CanHappen : Type 0 where
   pub comes : Keeps (after idle_view new_root) with_new_root
   pub changes : Keeps (after idle_view other_content) idle_pointers
   pub goes : Keeps (after idle_view first_span) without_span
+  pub all_copied : Keeps emptied healed_pointers
+  pub switches : Keeps (after emptied (switch emptied)) healed_pointers

@@ -57,3 +57,8 @@ DeltasKeepRules = (types : List SegType) (is_target : ℕ → Bool) (view : View
 abbrev pub TestsTell : Type 0
 TestsTell = (types : List SegType) (is_target : ℕ → Bool) (view : View) (pointers : List Pointer) (homes : List Home) (keys : List ListKey)
     → Covers view homes keys → keeps_rules types is_target view pointers homes keys ≡ true → KeepsRules types is_target view pointers
+
+-- and where they are kept, the tests pass, over whatever homes and names
+abbrev pub RulesPassTests : Type 0
+RulesPassTests = (types : List SegType) (is_target : ℕ → Bool) (view : View) (pointers : List Pointer) (homes : List Home) (keys : List ListKey)
+    → KeepsRules types is_target view pointers → keeps_rules types is_target view pointers homes keys ≡ true

@@ -11,3 +11,5 @@ pub mod Target
 pub mod Tests
 pub mod View
 pub mod Volume
+pub mod SideLaws
+pub mod Sides

@@ -90,3 +90,14 @@ pub record Holds (schema : Schema) (volume : Volume) (rows : List Row) (states :
   pub sound : KeepsVolume schema volume
   pub list : forest_of volume ≡ rows
   pub parts : map (λ view. view.state) volume.parts ≡ states
+
+-- such a volume holds one list and one list of states at the most
+abbrev pub HoldsOne : Type 0
+HoldsOne = (schema : Schema) (volume : Volume) (rows other : List Row) (states others : List PartState) → Holds schema volume rows states
+    → Holds schema volume other others → (rows ≡ other) × (states ≡ others)
+
+-- and these are a function of what stands: of the rows of the live sides and of the states, so that two volumes which have them alike hold the same
+abbrev pub AlikeHoldTheSame : Type 0
+AlikeHoldTheSame = (schema : Schema) (volume other : Volume) (rows : List Row) (states : List PartState) → Holds schema volume rows states
+    → KeepsVolume schema other → map walked other.parts ≡ map walked volume.parts → map (λ view. view.state) other.parts ≡ map (λ view. view.state) volume.parts
+    → Holds schema other rows states

@@ -9,6 +9,7 @@
 //! - `specs/Hanging.antt`: which record a segment stands in;
 //! - `specs/Rising.antt`: addresses that rise along the sequence;
 //! - `specs/Delta.antt`, `specs/Events.antt`: what an event does, and what it owes;
+//! - `specs/Sides.antt`: the rules 4 and 7, and what an event owes for the rules 4, 5 and 7;
 //! - `specs/Examples.antt`, `specs/Applied.antt`: volumes that there are, and events on them.
 #![tactic(auto)]
 
@@ -17,6 +18,7 @@ mod events;
 mod examples;
 mod pointers;
 mod rising;
+mod sides;
 mod telling;
 
 pub use deltas::{
@@ -32,7 +34,8 @@ pub use pointers::{
     entries_hang, gone_are_unpointed, pointers_hang, pointers_lead_home, roots_stand,
 };
 pub use rising::rising_goes_on;
-pub use telling::tests_tell;
+pub use sides::{deltas_keep_rule_4, deltas_keep_rule_5, deltas_keep_rule_7};
+pub use telling::{alike_hold_the_same, holds_one, rules_pass_tests, tests_tell};
 
 #[cfg(test)]
 mod tests;

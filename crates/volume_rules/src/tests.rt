@@ -9,11 +9,17 @@ fn the_laws_can_be_called(_rt: HostRuntime) {
     deltas_keep_rule_9();
     deltas_keep_rule_10();
     deltas_keep_rules();
+    deltas_keep_rule_4();
+    deltas_keep_rule_5();
+    deltas_keep_rule_7();
     examples_are_kept();
     examples_are_broken();
     pointers_lead_home();
     roots_stand();
     tests_tell();
+    rules_pass_tests();
+    holds_one();
+    alike_hold_the_same();
     rising_goes_on();
     entries_hang();
     pointers_hang();
