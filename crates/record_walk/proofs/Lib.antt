@@ -10,3 +10,5 @@ pub mod ByName
 pub mod RootRows
 pub mod KeptRecords
 pub mod ParentsFirst
+pub mod Rising
+pub mod Joined

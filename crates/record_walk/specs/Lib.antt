@@ -8,4 +8,7 @@ pub mod Named
 pub mod Roots
 pub mod Records
 pub mod Parents
+pub mod Siblings
+pub mod Volume
+pub mod OneProof
 pub mod Examples

@@ -18,9 +18,12 @@
 mod examples;
 mod listed;
 mod named;
+mod one_proof;
 mod parents;
 mod records;
 mod root_rows;
+mod siblings;
+mod volume;
 mod walk;
 
 pub use examples::{broken_sides, example_sides};
@@ -29,9 +32,12 @@ pub use listed::{
     replaced_content_is_listed,
 };
 pub use named::{homes_are_names, inserted_between, new_twins_are_inserted};
+pub use one_proof::sides_have_one_proof;
 pub use parents::parents_stand_first;
 pub use records::{cuts_keep_records, new_segments_keep_records, replaced_content_keeps_records};
 pub use root_rows::{homes_are_listed, rows_come_and_go, seen_follows};
+pub use siblings::siblings_rise;
+pub use volume::sides_are_forests;
 pub use walk::{
     changes_outside_leave, cuts_hang, met_cells_stand, new_segments_hang, replaced_content_hangs,
     trees_are_unique,

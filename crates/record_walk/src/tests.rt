@@ -22,6 +22,9 @@ fn the_laws_can_be_called(_rt: HostRuntime) {
     homes_are_listed();
     inserted_between();
     parents_stand_first();
+    siblings_rise();
+    sides_have_one_proof();
+    sides_are_forests();
     new_segments_keep_records();
     cuts_keep_records();
     replaced_content_keeps_records();
