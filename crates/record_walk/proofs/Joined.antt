@@ -8,6 +8,7 @@ use Rattle.std.specs.Option.{option_map_or}
 use Rattle.std.proofs.lemmas.Bool.{and_parts, and_from, or_cases, eqb-true, ltb-true, lt-ltb, leb-true, false≢true}
 use Rattle.std.proofs.lemmas.List.{append_assoc}
 use Rattle.std.proofs.lemmas.List.Folds.{list_all-append}
+use Rattle.hal_base.specs.declared.place.Ilk.{Ilk}
 use Rattle.hal_schema.specs.declared.row.Row.{Row}
 use Rattle.hal_schema.specs.declared.schema.SegType.{SegType}
 use Rattle.hal_schema.specs.declared.schema.Schema.{Schema}
@@ -19,7 +20,7 @@ use Rattle.hal_schema.specs.Row.{row_level, row_key}
 use Rattle.hal_schema.specs.Forest.{all_pairs, names_apart, has_length, is_selected, entries_differ, is_forest}
 use Rattle.forest_laws.proofs.Lists.{Among, among_passes, all_append, all_among, all_weaker, pairs_join}
 use Rattle.forest_laws.proofs.Parents.{Parts, forest_from}
-use Rattle.record_walk.specs.Tree.{Occurrence, Twins, no_segment, segment, Chains, no_chain, chain, child_codes, are_of, are_roots}
+use Rattle.record_walk.specs.Tree.{Occurrence, Twins, no_segment, segment, Chains, no_chain, chain, child_codes, are_of, are_chains_of, are_roots}
 use Rattle.record_walk.specs.Listing.{Placed, placed, list_of, list_in, rows_of}
 use Rattle.record_walk.specs.Side.{heads_of, heads_in, key_of, belongs, roots_rise, IsSideOf}
 use Rattle.record_walk.specs.Siblings.{twins_follow, twins_follow_in}
@@ -43,7 +44,7 @@ beside_list : (trees more : Chains) → list_in None (beside trees more) ≡ lis
 beside_list no_chain more = refl
 beside_list (chain twins trees) more = ap (λ l. list_of None twins ++ l) (beside_list trees more) ∙ sym (append_assoc (list_of None twins) (list_in None trees) (list_in None more))
 
-beside_heads : (trees more : Chains) → heads_in (beside trees more) ≡ heads_in trees ++ heads_in more
+pub beside_heads : (trees more : Chains) → heads_in (beside trees more) ≡ heads_in trees ++ heads_in more
 beside_heads no_chain more = refl
 beside_heads (chain twins trees) more = ap (λ l. heads_of twins ++ l) (beside_heads trees more) ∙ sym (append_assoc (heads_of twins) (heads_in trees) (heads_in more))
 
@@ -151,7 +152,7 @@ joined_rise schema (side ∷ sides) h p =
 -- ---- each root has a partition
 
 -- a row that is deeper than the roots is none
-no_root : (schema : Schema) → IsKept schema → (p : Placed) → is_deep schema.types 2 p ≡ true → p.row.code ≡ 1 → ⊥
+pub no_root : (schema : Schema) → IsKept schema → (p : Placed) → is_deep schema.types 2 p ≡ true → p.row.code ≡ 1 → ⊥
 no_root schema kept p h e =
     let one : level_of schema.types p.row.code ≡ 1 = ap (level_of schema.types) e ∙ kept.root_level in
     let two = leb-true 2 (row_level schema.types p.row) h in
@@ -164,6 +165,12 @@ inner_selected schema kept p h = by (p.row.code == 1) refl
     by true e = absurd (no_root schema kept p h (eqb-true p.row.code 1 e))
     by false e = refl
 
+-- what is below a root is deeper than roots
+pub below_roots : SchemasAreKept → (schema : Schema) (parent : Option Ilk) (below : Chains) → are_chains_of schema.types (child_codes schema.types 1) below ≡ true → list_all (is_deep schema.types 2) (list_in parent below) ≡ true
+below_roots kept schema parent below h =
+    let level = (kept schema).root_level in
+    deep_in schema.types (deepens kept schema) 2 (level_of schema.types 1 + 1) (child_codes schema.types 1) (children_level schema.types (deepens kept schema) 1) parent below h (omega (arith, level))
+
 chain_selected : SchemasAreKept → (schema : Schema) (twins : Twins) → are_of schema.types 1 twins ≡ true → list_all (λ root. is_some (partition_of schema (key_of schema root))) (heads_of twins) ≡ true
     → list_all (λ (p : Placed). is_selected schema p.row) (list_of None twins) ≡ true
 chain_selected kept schema no_segment h s = refl
@@ -175,7 +182,7 @@ chain_selected kept schema (segment s below next) h all =
     and_from (is_selected schema (placed None s).row) (list_all (λ (p : Placed). is_selected schema p.row) (list_in (Some s.name) below ++ list_of None next)) (own (s.code == 1) a.0)
     (all_append (λ (p : Placed). is_selected schema p.row) (list_in (Some s.name) below) (list_of None next)
     (all_weaker (is_deep types 2) (λ (p : Placed). is_selected schema p.row) (λ p d. inner_selected schema (kept schema) p d) (list_in (Some s.name) below)
-    (deep_in types (deepens kept schema) 2 (level_of types 1 + 1) (child_codes types 1) (children_level types (deepens kept schema) 1) (Some s.name) below t.under (omega (arith, level))))
+    (below_roots kept schema (Some s.name) below t.under))
     (chain_selected kept schema next t.later a.1))
   where
     own : (b : Bool) → is_some (partition_of schema (key_of schema s)) ≡ true → (not b || is_some (partition_of schema (key_of schema s))) ≡ true
@@ -197,7 +204,7 @@ in_partition schema [] h = tt
 in_partition schema (side ∷ sides) h =
     (all_weaker (belongs schema side.place) (λ root. is_some (partition_of schema (key_of schema root))) (λ root b. ap is_some (belongs_at schema side.place root b)) (heads_in side.trees) (h.0.roots_belong), in_partition schema sides (h.1))
 
-rows_pass : (test : Row → Bool) (list : List Placed) → list_all (λ (p : Placed). test p.row) list ≡ list_all test (rows_of list)
+pub rows_pass : (test : Row → Bool) (list : List Placed) → list_all (λ (p : Placed). test p.row) list ≡ list_all test (rows_of list)
 rows_pass test [] = refl
 rows_pass test (p ∷ list) = ap (λ (b : Bool). test p.row && b) (rows_pass test list)
 

@@ -12,3 +12,6 @@ pub mod KeptRecords
 pub mod ParentsFirst
 pub mod Rising
 pub mod Joined
+pub mod RecordOf
+pub mod ListedCells
+pub mod InOneSide

@@ -82,7 +82,7 @@ higher_twice level n m (x ∷ path) le = by (nat_lt (level x) m) refl (nat_lt (l
     by false e false f rest = rest
 
 -- rows at least so deep leave nothing above
-no_trace : (types : List SegType) (n : ℕ) (path : List Row) (list : List Placed) → list_all (is_deep types n) list ≡ true → higher (row_level types) n (path_after (row_level types) path (rows_of list)) ≡ higher (row_level types) n path
+pub no_trace : (types : List SegType) (n : ℕ) (path : List Row) (list : List Placed) → list_all (is_deep types n) list ≡ true → higher (row_level types) n (path_after (row_level types) path (rows_of list)) ≡ higher (row_level types) n path
 no_trace types n path [] h = refl
 no_trace types n path (p ∷ list) h =
     let level = row_level types in

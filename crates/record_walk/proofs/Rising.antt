@@ -45,7 +45,7 @@ pairs_append t xs ys =
     let b = and_parts (all_pairs t xs) (all_pairs t ys) a.1 in
     pairs_join t xs ys (record { front = b.0; back = b.1; across = a.0 }))
 
-pairs_rows : (t : Row → Row → Bool) (list : List Placed) → all_pairs t (rows_of list) ≡ all_pairs (λ (p q : Placed). t p.row q.row) list
+pub pairs_rows : (t : Row → Row → Bool) (list : List Placed) → all_pairs t (rows_of list) ≡ all_pairs (λ (p q : Placed). t p.row q.row) list
 pairs_rows t [] = refl
 pairs_rows t (p ∷ list) = ap (λ (b : Bool). b && all_pairs t (rows_of list)) (each list) ∙ ap (λ (b : Bool). list_all (λ (q : Placed). t p.row q.row) list && b) (pairs_rows t list)
   where
@@ -72,7 +72,7 @@ under_wider : (parent : Option Ilk) (few many : List Placed) (p : Placed) → ((
 under_wider parent few many p w (Top e) = Top e
 under_wider parent few many p w (Inner q a e) = Inner q (w q a) e
 
-either : {P Q R : Type 0} → (P → R) → (Q → R) → P ⊎ Q → R
+pub either : {P Q R : Type 0} → (P → R) → (Q → R) → P ⊎ Q → R
 either f g (inl p) = f p
 either f g (inr q) = g q
 

@@ -10,5 +10,7 @@ pub mod Records
 pub mod Parents
 pub mod Siblings
 pub mod Volume
+pub mod InRecords
+pub mod OneSide
 pub mod OneProof
 pub mod Examples

@@ -31,9 +31,12 @@ all_before schema roots others = list_all (λ a. list_all (λ b. is_lt (root_cmp
 abbrev pub precedes : Schema → PlacedSide → PlacedSide → Bool
 precedes schema a b = nat_lt a.place b.place || a.place == b.place && all_before schema (heads_in a.trees) (heads_in b.trees)
 
+abbrev pub AreAllSides : Schema → List PlacedSide → Type 0
+AreAllSides schema sides = AllByRecursion (λ side. IsSideOf schema side.place side.cells side.rows side.trees) sides
+
 -- sides in that order that keep the rules of a volume on sides: 4, 5 and 7
 pub record AreSidesInOrder (schema : Schema) (sides : List PlacedSide) : Type 0 where
-  pub each : AllByRecursion (λ side. IsSideOf schema side.place side.cells side.rows side.trees) sides
+  pub each : AreAllSides schema sides
   pub twins : list_all (λ side. twins_follow_in schema side.trees) sides ≡ true
   pub order : all_pairs (precedes schema) sides ≡ true
 
