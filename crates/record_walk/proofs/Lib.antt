@@ -15,3 +15,4 @@ pub mod Joined
 pub mod RecordOf
 pub mod ListedCells
 pub mod InOneSide
+pub mod ChangedSides

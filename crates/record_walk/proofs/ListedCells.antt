@@ -17,7 +17,7 @@ use Rattle.record_walk.proofs.OnLists.{count, counted_in}
 use Rattle.record_walk.proofs.RecordOf.{bytes_itself, differ_in}
 
 -- what is seen of a cell has all of it but the twin and the children
-record SeenOf (o : Option Cell) (cell : Cell) : Type 0 where
+pub record SeenOf (o : Option Cell) (cell : Cell) : Type 0 where
   pub is : Cell
   pub stands : o ≡ Some is
   pub copied : is.copied ≡ cell.copied
@@ -28,7 +28,7 @@ record SeenOf (o : Option Cell) (cell : Cell) : Type 0 where
 some_cell : (a b : Cell) → Some a ≡ Some b → a ≡ b
 some_cell a b e = cc
 
-seen_of : (phdam : Bool) (cells : ℕ → Option Cell) (home : ℕ) (cell : Cell) → seen phdam cells home ≡ Some cell → SeenOf (cells home) cell
+pub seen_of : (phdam : Bool) (cells : ℕ → Option Cell) (home : ℕ) (cell : Cell) → seen phdam cells home ≡ Some cell → SeenOf (cells home) cell
 seen_of true cells home cell e = record { is = cell; stands = e; copied = refl; code = refl; name = refl; content = refl }
 seen_of false cells home cell e = by (cells home) e
   where

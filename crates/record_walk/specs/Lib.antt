@@ -12,5 +12,6 @@ pub mod Siblings
 pub mod Volume
 pub mod InRecords
 pub mod OneSide
+pub mod SideChanges
 pub mod OneProof
 pub mod Examples

@@ -25,6 +25,7 @@ mod parents;
 mod records;
 mod root_rows;
 mod siblings;
+mod side_changes;
 mod volume;
 mod walk;
 
@@ -41,6 +42,7 @@ pub use parents::parents_stand_first;
 pub use records::{cuts_keep_records, new_segments_keep_records, replaced_content_keeps_records};
 pub use root_rows::{homes_are_listed, rows_come_and_go, seen_follows};
 pub use siblings::siblings_rise;
+pub use side_changes::changed_sides;
 pub use volume::sides_are_forests;
 pub use walk::{
     changes_outside_leave, cuts_hang, met_cells_stand, new_segments_hang, replaced_content_hangs,

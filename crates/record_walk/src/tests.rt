@@ -25,6 +25,7 @@ fn the_laws_can_be_called(_rt: HostRuntime) {
     siblings_rise();
     entries_hang_in_records();
     sides_list_their_cells();
+    changed_sides();
     changes_of_one_side();
     sides_have_one_proof();
     sides_are_forests();
