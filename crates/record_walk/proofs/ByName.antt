@@ -215,7 +215,7 @@ inserted_between = record {
         let place : insertion_place schema rows new ≡ 0 = omega (arith, after, run) in
         ap (λ (n : ℕ). insert rows n new) place
 
-begins : (types : List SegType) (n : ℕ) (list : List Placed) → starts_upto types n list ≡ true → begins_upto types n (rows_of list) ≡ true
+pub begins : (types : List SegType) (n : ℕ) (list : List Placed) → starts_upto types n list ≡ true → begins_upto types n (rows_of list) ≡ true
 begins types n [] h = refl
 begins types n (p ∷ list) h = h
 

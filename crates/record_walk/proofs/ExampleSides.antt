@@ -11,7 +11,7 @@ use Rattle.record_walk.specs.Tree.{Occurrence, Twins, no_segment, segment, Chain
 use Rattle.record_walk.specs.Side.{RootRow, seen, IsSideOf}
 use Rattle.record_walk.specs.Examples.{phidam, phdam, cells_in, example_cells, cell_at_home, at, r7, row, two_trees, one_tree, single, misplaced, shared, lost, two_roots, name_at, AreSides, IsNoSide, BreakAPart}
 use Rattle.record_walk.proofs.Homes.{Stands}
-use Rattle.record_walk.proofs.Unique.{unique_in}
+use Rattle.record_walk.specs.OneProof.{unique_in}
 
 -- ---- homes that differ are met once
 
@@ -204,8 +204,8 @@ break_a_part = record {
   other_key = no_side phidam (single 16 (codes "001aa")) (row (codes "002") 16 ∷ []) (root (codes "001aa")) ((some 16 refl, refl, (tt, (tt, tt)), tt), tt) refl (λ s. false≢true s.rows_are_keyed);
   other_anchor = no_side phdam (single 16 (codes "001aa")) (row (0 ∷ 0 ∷ 0 ∷ 0 ∷ []) 16 ∷ []) (root (codes "001aa")) ((some 16 refl, refl, (tt, (tt, tt)), tt), tt) refl (λ s. false≢true s.rows_are_keyed);
   copied_is_met = λ s. let there = led (seen false (cells_in (example_cells 0))) 144 [] (s.0) (s.1.hangs) (s.1.rows_lead) (some 144 refl) in copied_stands (record { copied = true; code = 1; name = name_at 144; twin = 0; children = 32 ∷ 112 ∷ []; content = codes "000cc" }) there.cell refl there.is there.kept;
-  wrong_type = no_side phidam misplaced (row (codes "001") 16 ∷ []) (chain (segment (at 16 1 (codes "001aa")) (chain no_segment (chain (segment (at 32 2 (codes "01xx")) (chain no_segment no_chain) no_segment) no_chain)) no_segment) no_chain)
-      ((some 16 refl, refl, (tt, ((some 32 refl, refl, (tt, tt), tt), tt)), tt), tt) refl (λ s. false≢true s.typed);
+  wrong_type = no_side phidam misplaced (row (codes "001") 16 ∷ []) (chain (segment (at 16 1 (codes "001aa")) (chain no_segment (chain (segment (at 32 3 (codes "g1")) no_chain no_segment) no_chain)) no_segment) no_chain)
+      ((some 16 refl, refl, (tt, ((some 32 refl, refl, tt, tt), tt)), tt), tt) refl (λ s. false≢true s.typed);
   met_twice = no_side phidam shared (row (codes "001") 16 ∷ [])
       (chain (segment (at 16 1 (codes "001aa")) (chain (segment (at 32 2 (codes "01xx")) (chain g1 no_chain) (segment (at 80 2 (codes "01yy")) (chain g1 no_chain) no_segment)) (chain no_segment no_chain)) no_segment) no_chain)
       ((some 16 refl, refl, ((some 32 refl, refl, ((some 48 refl, refl, tt, tt), tt), (some 80 refl, refl, ((some 48 refl, refl, tt, tt), tt), tt)), (tt, tt)), tt), tt) refl

@@ -109,15 +109,15 @@ cut_typed types code (segment s below next) h = (typed types code s below next h
 
 -- ---- homes
 
-bare_met : (home kinds : ℕ) → times_in home (bare kinds) ≡ 0
+pub bare_met : (home kinds : ℕ) → times_in home (bare kinds) ≡ 0
 bare_met home zero = refl
 bare_met home (suc kinds) = let rest = bare_met home kinds in omega (arith, rest)
 
 -- the homes that are met before and after a change of the twins behind a pointer
-record Met (home : ℕ) (old now : Chains) (before after : Twins) : Type 0 where
+pub record Met (home : ℕ) (old now : Chains) (before after : Twins) : Type 0 where
   pub same : times_in home now + times home before ≡ times_in home old + times home after
 
-met_of : (types : List SegType) (cells : ℕ → Option Cell) (leads : ℕ) (change : Twins → Twins) (old now : Chains) (x : ChainIn types cells leads change (list_in None old) (list_in None now)) (home : ℕ) → Met home old now x.twins (change x.twins)
+pub met_of : (types : List SegType) (cells : ℕ → Option Cell) (leads : ℕ) (change : Twins → Twins) (old now : Chains) (x : ChainIn types cells leads change (list_in None old) (list_in None now)) (home : ℕ) → Met home old now x.twins (change x.twins)
 met_of types cells leads change old now x home =
     let a = counted_in home None old ∙ ap (count home) x.was ∙ count_append home x.front (list_of x.parent x.twins ++ x.back) in
     let b = count_append home (list_of x.parent x.twins) x.back in
@@ -202,7 +202,7 @@ mutual
       by true low high = refl
       by false low high = omega (arith, low, high)
 
-  content_met_in : (home : ℕ) (content : List ℕ) (o : ℕ) (chains : Chains) → times_in o (in_home home (λ s below next. segment (record s { content = content }) below next) chains) ≡ times_in o chains
+  pub content_met_in : (home : ℕ) (content : List ℕ) (o : ℕ) (chains : Chains) → times_in o (in_home home (λ s below next. segment (record s { content = content }) below next) chains) ≡ times_in o chains
   content_met_in home content o no_chain = refl
   content_met_in home content o (chain twins more) =
       let a = content_met home content o twins in

@@ -10,3 +10,9 @@ pub mod ByName
 pub mod RootRows
 pub mod KeptRecords
 pub mod ParentsFirst
+pub mod Rising
+pub mod Joined
+pub mod RecordOf
+pub mod ListedCells
+pub mod InOneSide
+pub mod ChangedSides

@@ -62,7 +62,7 @@ mutual
       let c = count_append home (list_of parent twins) (list_in parent more) in
       omega (arith, a, b, c)
 
-none_at : (home : ℕ) (list : List Placed) → count home list ≡ 0 → list_all (λ p. not (is_at home p)) list ≡ true
+pub none_at : (home : ℕ) (list : List Placed) → count home list ≡ 0 → list_all (λ p. not (is_at home p)) list ≡ true
 unfolding count
 none_at home [] h = refl
 none_at home (p ∷ list) h = by (p.home == home) refl (none_at home list (omega (arith, h)))

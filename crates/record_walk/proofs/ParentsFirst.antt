@@ -9,14 +9,15 @@ use Rattle.std.proofs.lemmas.List.Elements.{filter-append}
 use Rattle.std.proofs.lemmas.List.Folds.{list_all-append}
 use Rattle.hal_base.specs.declared.place.Ilk.{Ilk}
 use Rattle.hal_schema.specs.declared.row.Row.{Row}
+use Rattle.hal_schema.specs.declared.schema.Schema.{Schema}
 use Rattle.hal_schema.specs.declared.schema.SegType.{SegType}
 use Rattle.hal_schema.specs.Facts.{SchemasAreKept}
 use Rattle.hal_schema.specs.SegType.{type_of, parent_code, level_of, is_child}
 use Rattle.hal_schema.specs.Row.{same_name, row_level}
 use Rattle.hal_schema.specs.Paths.{path_with, path_after, with_paths}
-use Rattle.hal_schema.specs.Forest.{is_child_of, is_path}
+use Rattle.hal_schema.specs.Forest.{is_child_of, is_path, rows_are_below_parents}
 use Rattle.hal_schema.proofs.RowNames.{name_itself}
-use Rattle.record_walk.specs.Tree.{Occurrence, Twins, no_segment, segment, Chains, no_chain, chain, child_codes, are_of, are_chains_of}
+use Rattle.record_walk.specs.Tree.{Occurrence, Twins, no_segment, segment, Chains, no_chain, chain, child_codes, are_of, are_chains_of, are_roots}
 use Rattle.record_walk.specs.Listing.{Placed, placed, list_of, list_in, rows_of}
 use Rattle.record_walk.specs.Parents.{ParentsStandFirst}
 use Rattle.record_walk.proofs.Levels.{Deepens, AtLevel, child_is, children_level, all_append, typed, is_deep, deep, deep_in, ones, roots_typed, ones_level}
@@ -81,7 +82,7 @@ higher_twice level n m (x ∷ path) le = by (nat_lt (level x) m) refl (nat_lt (l
     by false e false f rest = rest
 
 -- rows at least so deep leave nothing above
-no_trace : (types : List SegType) (n : ℕ) (path : List Row) (list : List Placed) → list_all (is_deep types n) list ≡ true → higher (row_level types) n (path_after (row_level types) path (rows_of list)) ≡ higher (row_level types) n path
+pub no_trace : (types : List SegType) (n : ℕ) (path : List Row) (list : List Placed) → list_all (is_deep types n) list ≡ true → higher (row_level types) n (path_after (row_level types) path (rows_of list)) ≡ higher (row_level types) n path
 no_trace types n path [] h = refl
 no_trace types n path (p ∷ list) h =
     let level = row_level types in
@@ -184,7 +185,10 @@ unfolding ones
 root_children types no_chain = tt
 root_children types (chain twins more) = (λ s e. and_from (s.code == 1) true (eq-eqb s.code 1 e) refl, root_children types more)
 
-pub parents_stand_first : SchemasAreKept → ParentsStandFirst
-parents_stand_first kept schema cells firsts trees r =
-    led_in schema.types (deepens kept schema) (level_of schema.types 1) (ones trees) (ones_level schema.types trees) None None [] trees (roots_typed schema.types trees r.typed) (root_children schema.types trees)
+pub below_parents : SchemasAreKept → (schema : Schema) (trees : Chains) → are_roots schema.types trees ≡ true → rows_are_below_parents schema.types (rows_of (list_in None trees)) ≡ true
+below_parents kept schema trees h =
+    led_in schema.types (deepens kept schema) (level_of schema.types 1) (ones trees) (ones_level schema.types trees) None None [] trees (roots_typed schema.types trees h) (root_children schema.types trees)
     (λ row c. and_from (is_child_of schema.types None row) true c refl)
+
+pub parents_stand_first : SchemasAreKept → ParentsStandFirst
+parents_stand_first kept schema cells firsts trees r = below_parents kept schema trees r.typed

@@ -78,12 +78,12 @@ seen_follows = record { same = seen_same; free = seen_free; new = seen_new; chil
 
 -- ---- rows that come
 
-record SameTrees (types : List SegType) (old now : Chains) : Type 0 where
+pub record SameTrees (types : List SegType) (old now : Chains) : Type 0 where
   pub list : list_in None now ≡ list_in None old
   pub typed : are_roots types now ≡ are_roots types old
   pub met : (home : ℕ) → times_in home now ≡ times_in home old
 
-came : (types : List SegType) (place : ℕ) (trees : Chains) → SameTrees types trees (with_row place trees)
+pub came : (types : List SegType) (place : ℕ) (trees : Chains) → SameTrees types trees (with_row place trees)
 came types zero trees = record { list = refl; typed = refl; met = λ home. omega arith }
 came types (suc place) no_chain = record { list = refl; typed = refl; met = λ home. refl }
 came types (suc place) (chain twins more) =
@@ -94,19 +94,19 @@ came types (suc place) (chain twins more) =
       met = λ home. ap (λ (n : ℕ). times home twins + n) (rest.met home);
     }
 
-came_hangs : (cells : ℕ → Option Cell) (place : ℕ) (trees : Chains) → HangIn cells trees → HangIn cells (with_row place trees)
+pub came_hangs : (cells : ℕ → Option Cell) (place : ℕ) (trees : Chains) → HangIn cells trees → HangIn cells (with_row place trees)
 came_hangs cells zero trees h = (tt, h)
 came_hangs cells (suc place) no_chain h = tt
 came_hangs cells (suc place) (chain twins more) h = (h.0, came_hangs cells place more (h.1))
 
-came_firsts : (place : ℕ) (trees : Chains) → place ≤ length (firsts_of trees) → firsts_of (with_row place trees) ≡ insert (firsts_of trees) place 0
+pub came_firsts : (place : ℕ) (trees : Chains) → place ≤ length (firsts_of trees) → firsts_of (with_row place trees) ≡ insert (firsts_of trees) place 0
 came_firsts zero trees le = refl
 came_firsts (suc place) no_chain le = absurd (omega (arith, le))
 came_firsts (suc place) (chain twins more) le = ap (λ (l : List ℕ). first_of twins ∷ l) (came_firsts place more (omega (arith, le)))
 
 -- ---- rows that go
 
-gone : (types : List SegType) (cells : ℕ → Option Cell) (place : ℕ) (trees : Chains) → HangIn cells trees → slice_get (firsts_of trees) place ≡ Some 0 → SameTrees types trees (without_row place trees)
+pub gone : (types : List SegType) (cells : ℕ → Option Cell) (place : ℕ) (trees : Chains) → HangIn cells trees → slice_get (firsts_of trees) place ≡ Some 0 → SameTrees types trees (without_row place trees)
 gone types cells place no_chain h e = record { list = refl; typed = refl; met = λ home. refl }
 gone types cells zero (chain no_segment more) h e = record { list = refl; typed = refl; met = λ home. omega arith }
 gone types cells zero (chain (segment s below next) more) h e =
@@ -121,12 +121,12 @@ gone types cells (suc place) (chain twins more) h e =
       met = λ home. ap (λ (n : ℕ). times home twins + n) (rest.met home);
     }
 
-gone_hangs : (cells : ℕ → Option Cell) (place : ℕ) (trees : Chains) → HangIn cells trees → HangIn cells (without_row place trees)
+pub gone_hangs : (cells : ℕ → Option Cell) (place : ℕ) (trees : Chains) → HangIn cells trees → HangIn cells (without_row place trees)
 gone_hangs cells place no_chain h = tt
 gone_hangs cells zero (chain twins more) h = h.1
 gone_hangs cells (suc place) (chain twins more) h = (h.0, gone_hangs cells place more (h.1))
 
-gone_firsts : (place : ℕ) (trees : Chains) → firsts_of (without_row place trees) ≡ remove (firsts_of trees) place
+pub gone_firsts : (place : ℕ) (trees : Chains) → firsts_of (without_row place trees) ≡ remove (firsts_of trees) place
 gone_firsts zero no_chain = refl
 gone_firsts (suc place) no_chain = refl
 gone_firsts zero (chain twins more) = refl

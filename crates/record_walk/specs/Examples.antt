@@ -145,9 +145,9 @@ IsNoSide schema cells rows = IsSide schema 0 (cells_in cells) rows → ⊥
 abbrev pub single : ℕ → List ℕ → List (ℕ × Cell)
 single home content = cell_at_home home 1 0 (0 ∷ 0 ∷ []) content ∷ []
 
--- a first child of a wrong type; a cell to which two pointers lead; a cell to which none does; two roots
+-- a first child of a wrong type, which has as many child types as the wanted one; a cell to which two pointers lead; a cell to which none does; two roots
 abbrev pub misplaced : List (ℕ × Cell)
-misplaced = cell_at_home 16 1 0 (0 ∷ 32 ∷ []) (codes "001aa") ∷ cell_at_home 32 2 0 (0 ∷ []) (codes "01xx") ∷ []
+misplaced = cell_at_home 16 1 0 (0 ∷ 32 ∷ []) (codes "001aa") ∷ cell_at_home 32 3 0 [] (codes "g1") ∷ []
 
 abbrev pub shared : List (ℕ × Cell)
 shared =

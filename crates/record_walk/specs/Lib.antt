@@ -8,4 +8,10 @@ pub mod Named
 pub mod Roots
 pub mod Records
 pub mod Parents
+pub mod Siblings
+pub mod Volume
+pub mod InRecords
+pub mod OneSide
+pub mod SideChanges
+pub mod OneProof
 pub mod Examples

@@ -16,22 +16,34 @@
 #![tactic(auto)]
 
 mod examples;
+mod in_records;
 mod listed;
 mod named;
+mod one_proof;
+mod one_side;
 mod parents;
 mod records;
 mod root_rows;
+mod siblings;
+mod side_changes;
+mod volume;
 mod walk;
 
 pub use examples::{broken_sides, example_sides};
+pub use in_records::{entries_hang_in_records, sides_list_their_cells};
 pub use listed::{
     cuts_are_spans, new_segments_are_listed, new_twins_stand_behind_spans,
     replaced_content_is_listed,
 };
 pub use named::{homes_are_names, inserted_between, new_twins_are_inserted};
+pub use one_proof::sides_have_one_proof;
+pub use one_side::changes_of_one_side;
 pub use parents::parents_stand_first;
 pub use records::{cuts_keep_records, new_segments_keep_records, replaced_content_keeps_records};
 pub use root_rows::{homes_are_listed, rows_come_and_go, seen_follows};
+pub use siblings::siblings_rise;
+pub use side_changes::changed_sides;
+pub use volume::sides_are_forests;
 pub use walk::{
     changes_outside_leave, cuts_hang, met_cells_stand, new_segments_hang, replaced_content_hangs,
     trees_are_unique,

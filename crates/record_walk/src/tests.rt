@@ -22,6 +22,13 @@ fn the_laws_can_be_called(_rt: HostRuntime) {
     homes_are_listed();
     inserted_between();
     parents_stand_first();
+    siblings_rise();
+    entries_hang_in_records();
+    sides_list_their_cells();
+    changed_sides();
+    changes_of_one_side();
+    sides_have_one_proof();
+    sides_are_forests();
     new_segments_keep_records();
     cuts_keep_records();
     replaced_content_keeps_records();
