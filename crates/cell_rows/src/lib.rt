@@ -5,10 +5,12 @@ ghost use Rattle.std.specs.Prelude.{◌≡◌, ◌-◌, ◌<◌, List as ListOf,
 ghost use Rattle.hal_base.specs.declared.place.Shape.{Shape as ShapeOf};
 ghost use Rattle.free_space.specs.Store.{IsTyped};
 
+mod hanging;
 mod kept;
 mod open_side;
 
 use hal_base::{Bytes, Ilk, List, Memory, Shape};
+pub use hanging::placed_segments_hang;
 pub use kept::OpenCells;
 pub use open_side::OpenSide;
 use segment_blocks::Cell;
