@@ -82,7 +82,8 @@ impl SideCells {
         requires live { IsTrue (H.seen shelf.old).live }
         requires stands { StandsForSide self.now (H.seen shelf.old) }
         requires cell { Holds self.now (H.seen shelf.old) at (λ cell. place < length cell.children) }
-        ensures alters { AltersCell result self.now at (λ cell. record cell { children = slice_set cell.children place to }) (H.seen shelf.old) (H.seen shelf.new) }
+        ensures alters { AltersCell result self.now at (λ cell. record cell { children = slice_set cell.children place to })
+            (H.seen shelf.old) (H.seen shelf.new) }
         ensures stands { StandsForSide self.now (H.seen shelf.new) }
         ensures leaves { OnlyChangesAt self.now at (H.steady shelf.old shelf.new) (IsErrOf result PageFault.Failed) (H.seen shelf.old) (H.seen shelf.new) }
     {
