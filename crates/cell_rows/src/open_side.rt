@@ -8,7 +8,7 @@ ghost use Rattle.free_space.specs.Store.{IsTyped};
 
 use crate::cell_of;
 use free_space::{PlacedCell, SideCells};
-use hal_base::{Bytes, List, PageFault, SetId, Shape, Shelf, StoreFault};
+use hal_base::{Bytes, Ilk, List, PageFault, SetId, Shape, Shelf, StoreFault};
 use segment_blocks::Cell;
 use std::alloc::Global;
 
@@ -112,6 +112,13 @@ impl<H: Shelf + Drop> OpenSide<H> {
         requires cell { Holds self.old.side (H.seen self.old.shelf) at (λ cell. length content ≡ length cell.content) }
     {
         self.side.set_content(&mut self.shelf, at, content)
+    }
+
+    pub fn set_name(&mut self, at: u32, name: Ilk) -> Result<(), PageFault>
+        requires live { IsTrue (H.seen self.old.shelf).live }
+        requires cell { Holds self.old.side (H.seen self.old.shelf) at (λ _. ⊤) }
+    {
+        self.side.set_name(&mut self.shelf, at, name)
     }
 
     pub fn mark_copied(&mut self, at: u32) -> Result<(), PageFault>

@@ -1,6 +1,6 @@
 // Sides over a shelf in memory that tells nothing. Each stays open from the first call of a test to the last.
 use crate::OpenSide;
-use hal_base::{Bytes, Memory, PageFault, SetId, Shape};
+use hal_base::{Bytes, Ilk, Memory, PageFault, SetId, Shape};
 use memory_shelf::QuietShelf;
 use std::alloc::Global;
 use std::test::Fail;
@@ -202,9 +202,16 @@ fn one_cell_is_changed_and_keeps_its_pointers(rt: HostRuntime) -> Result<(), Fai
     assert_eq!(rt; new_record(&mut side, b'r'), Ok(16));
     let content = Bytes::from_slice(rt.alloc(), b"01xx")?;
     assert_eq!(rt; side.set_content(48, content), Ok(()));
+    let name = Ilk {
+        addr: 48,
+        part: 2,
+        number: 3,
+    };
+    assert_eq!(rt; side.set_name(48, name), Ok(()));
     assert_eq!(rt; side.mark_copied(48), Ok(()));
     let cell = side.find(48).ok().ok_or("find")?.ok_or("cell")?;
     assert_eq!(rt; (cell.copied, cell.code, cell.twin), (true, C, 72));
+    assert_eq!(rt; cell.name, name);
     assert_eq!(rt; cell.children.as_slice(), [B1].as_slice());
     assert_eq!(rt; cell.content.as_slice(), b"01xx".as_slice());
     let root = side.find(16).ok().ok_or("find")?.ok_or("cell")?;
