@@ -1,14 +1,18 @@
-//! Tests of the store of cells over a shelf in memory.
+//! Tests of the store of cells, and of the cells of a side, over a shelf in memory.
 #![tactic(auto)]
 
 ghost use Rattle.std.specs.Prelude.{◌≡◌, ◌-◌, ◌<◌, List as ListOf, Some, IfOk, length, slice_get};
 ghost use Rattle.hal_base.specs.declared.place.Shape.{Shape as ShapeOf};
 ghost use Rattle.free_space.specs.Store.{IsTyped};
 
+mod hanging;
 mod kept;
+mod open_side;
 
 use hal_base::{Bytes, Ilk, List, Memory, Shape};
+pub use hanging::placed_segments_hang;
 pub use kept::OpenCells;
+pub use open_side::OpenSide;
 use segment_blocks::Cell;
 use std::alloc::Global;
 
@@ -36,3 +40,5 @@ pub fn cell_of(alloc: Global, code: u8, shape: Shape, byte: u8) -> Result<Cell, 
 
 #[cfg(test)]
 mod cells;
+#[cfg(test)]
+mod sides;

@@ -1,5 +1,5 @@
 -- What is known of the pages of a store's set, over calls that read, put or add one.
-use Rattle.std.proofs.Common.{◌≡◌, ◌≢◌, ℕ, zero, suc, ◌≤◌, ◌⊎◌, inl, inr, Result, Ok, Err, List, [], ◌∷◌, ◌++◌, length, get_or, map, take, drop, Option, Some, None, refl, sym, ap, subst, ◌∙◌, arith}
+use Rattle.std.proofs.Common.{◌≡◌, ◌≢◌, ℕ, zero, suc, ◌≤◌, ◌⊎◌, inl, inr, true, Result, Ok, Err, List, [], ◌∷◌, ◌++◌, length, get_or, map, take, drop, Option, Some, None, refl, sym, ap, subst, ◌∙◌, arith}
 use Rattle.std.specs.Prelude.{slice_get, slice_set, IfSome}
 use Rattle.std.specs.Option.{option_map}
 use Rattle.std.proofs.lemmas.Bool.{cases_eq, cases_lt}
@@ -8,7 +8,8 @@ use Rattle.std.proofs.lemmas.Option.{slice_get_within, slice_get-get_or, slice_g
 use Rattle.hal_base.specs.declared.place.Shape.{Shape}
 use Rattle.hal_base.specs.declared.pages.SetId.{SetId}
 use Rattle.hal_base.specs.Pages.{SameHead, empty_page}
-use Rattle.hal_base.specs.ShelfCalls.{ShelfView, SameShelf, GrownBy, SameHeads, KeepsHeads}
+use Rattle.hal_base.specs.ShelfCalls.{ShelfView, SameShelf, GrownBy, OnlyReads, SameHeads, KeepsHeads}
+use Rattle.hal_base.proofs.ShelfLemmas.{same_none}
 use Rattle.segment_blocks.specs.declared.tile.Tile.{Tile}
 use Rattle.segment_blocks.specs.Tiling.{IsTiling}
 use Rattle.segment_blocks.specs.TilesOf.{tiles_of}
@@ -280,3 +281,18 @@ some_heads set shapes (Some pages) new Leads become = let b = become pages refl 
 -- a change of the tiles keeps the head of each page
 pub relays_heads : (store : CellStore) (old new : ShelfView) (Leads : List (List Tile) → List (List Tile) → Type 0) → Relays store old new Leads → KeepsHeads SameFront 1 store.set old new
 relays_heads store old new Leads relays = some_heads store.set store.shapes (old.pages store.set) (new.pages store.set) Leads relays
+
+-- ---- calls that read pages one after the other
+
+-- before the first of them
+pub reads_none : {steady : Type 0} (shelf : ShelfView) → steady → shelf.live ≡ true → OnlyReads 0 steady ⊥ shelf shelf
+reads_none shelf is_steady live = record {
+  keeps = record {
+    is_steady = is_steady;
+    takes = λ set kind. refl;
+    faults = record { later = omega arith; cause = λ failed. absurd failed; alive = λ fine. live; dead = λ failed. absurd failed };
+    fetches = omega arith;
+  };
+  same = same_none shelf;
+  few = omega arith;
+}

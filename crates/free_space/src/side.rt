@@ -14,6 +14,10 @@ use std::alloc::Global;
 
 /// The cells of one side of a partition, by their addresses: the data sets of the letters A to J, or M to V, each of which
 /// may have no page (IMS: data set groups). The shelf is passed at each call.
+///
+/// A call answers `Failed` where the shelf failed, and `Memory` where no memory was to be had, or where a page was read
+/// otherwise than before. Then no cell has changed; `place` and `append` may have added empty pages, and they alone answer
+/// `NoRoom`.
 #[derive(Debug, Drop)]
 pub struct SideCells {
     pub(crate) first: SetId,

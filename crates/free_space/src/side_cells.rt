@@ -7,7 +7,7 @@ ghost use Rattle.free_space.specs.SideCalls.{StandsForSide, Finds, Holds, Alters
 use crate::SideCells;
 use crate::change::Change;
 use crate::side::place_at;
-use hal_base::{Bytes, PageFault, Shelf};
+use hal_base::{Bytes, Ilk, PageFault, Shelf};
 use segment_blocks::Cell;
 
 impl SideCells {
@@ -82,7 +82,8 @@ impl SideCells {
         requires live { IsTrue (H.seen shelf.old).live }
         requires stands { StandsForSide self.now (H.seen shelf.old) }
         requires cell { Holds self.now (H.seen shelf.old) at (λ cell. place < length cell.children) }
-        ensures alters { AltersCell result self.now at (λ cell. record cell { children = slice_set cell.children place to }) (H.seen shelf.old) (H.seen shelf.new) }
+        ensures alters { AltersCell result self.now at (λ cell. record cell { children = slice_set cell.children place to })
+            (H.seen shelf.old) (H.seen shelf.new) }
         ensures stands { StandsForSide self.now (H.seen shelf.new) }
         ensures leaves { OnlyChangesAt self.now at (H.steady shelf.old shelf.new) (IsErrOf result PageFault.Failed) (H.seen shelf.old) (H.seen shelf.new) }
     {
@@ -104,6 +105,18 @@ impl SideCells {
         ensures leaves { OnlyChangesAt self.now at (H.steady shelf.old shelf.new) (IsErrOf result PageFault.Failed) (H.seen shelf.old) (H.seen shelf.new) }
     {
         self.rewrite(shelf, at, Change::Content(content))
+    }
+
+    /// Sets the name of the cell at an address, which is known only once the cell was placed.
+    pub fn set_name<H: Shelf>(&self, shelf: &mut H, at: u32, name: Ilk) -> Result<(), PageFault>
+        requires live { IsTrue (H.seen shelf.old).live }
+        requires stands { StandsForSide self.now (H.seen shelf.old) }
+        requires cell { Holds self.now (H.seen shelf.old) at (λ _. ⊤) }
+        ensures alters { AltersCell result self.now at (λ cell. record cell { name = name }) (H.seen shelf.old) (H.seen shelf.new) }
+        ensures stands { StandsForSide self.now (H.seen shelf.new) }
+        ensures leaves { OnlyChangesAt self.now at (H.steady shelf.old shelf.new) (IsErrOf result PageFault.Failed) (H.seen shelf.old) (H.seen shelf.new) }
+    {
+        self.rewrite(shelf, at, Change::Name(name))
     }
 
     /// Marks the cell at an address as copied into the other data set.

@@ -2,23 +2,14 @@ use Rattle.std.proofs.Common.{◌≡◌, ℕ, ◌+◌, [], ◌∷◌, ◌++◌, 
 use Rattle.std.proofs.lemmas.List.{length_push}
 use Rattle.std.proofs.lemmas.Result.{err_from_is_err_and}
 use Rattle.hal_base.specs.declared.outcome.StoreFault.TheVariants.{BadTile, Failed}
-use Rattle.hal_base.proofs.ShelfLemmas.{same_none, reads_then, reads_as, reads_more}
-use Rattle.free_space.proofs.Told.{handed_on, handed_to, ok_err, if_some}
+use Rattle.hal_base.proofs.ShelfLemmas.{reads_then, reads_as, reads_more}
+use Rattle.free_space.proofs.Told.{reads_none, handed_on, handed_to, ok_err, if_some}
 use Rattle.free_space.proofs.Openings.{KnowsFront, front_none, front_all, front_more, front_breaks}
 use Rattle.free_space.proofs.open.read_spaces.Goals as goal
 
 pub loop-page-init : goal.loop-page-init
 loop-page-init g c = record {
-  reads = record {
-    keeps = record {
-      is_steady = g.met.H.Shelf.steady_none c.args.shelf.now;
-      takes = λ set kind. refl;
-      faults = record { later = omega arith; cause = λ failed. absurd failed; alive = λ fine. c.requires.live; dead = λ failed. absurd failed };
-      fetches = omega arith;
-    };
-    same = same_none (g.H.Shelf.seen c.args.shelf.now);
-    few = omega arith;
-  };
+  reads = reads_none (g.H.Shelf.seen c.args.shelf.now) (g.met.H.Shelf.steady_none c.args.shelf.now) c.requires.live;
   count = ap length c.new-spaces.ensures.items;
   known = λ pages told. subst (KnowsFront c.args.shapes.now pages 0) (sym c.new-spaces.ensures.items) (front_none c.args.shapes.now pages);
 }

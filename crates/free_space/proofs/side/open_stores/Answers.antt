@@ -3,28 +3,19 @@ use Rattle.std.specs.Prelude.{slice_get}
 use Rattle.std.proofs.lemmas.List.{length_push}
 use Rattle.std.proofs.lemmas.Result.{err_from_is_err_and}
 use Rattle.hal_base.specs.declared.outcome.StoreFault.TheVariants.{BadTile, Failed}
-use Rattle.hal_base.proofs.ShelfLemmas.{same_none, reads_then, reads_as, reads_more}
+use Rattle.hal_base.proofs.ShelfLemmas.{reads_then, reads_as, reads_more}
 use Rattle.hal_base.specs.declared.place.Shape.{Shape}
 use Rattle.free_space.specs.declared.store.CellStore.{CellStore}
 use Rattle.free_space.specs.Side.{lettered}
 use Rattle.free_space.specs.SideCalls.{pages_upto}
 use Rattle.free_space.specs.Store.{StandsFor, AreTiled}
-use Rattle.free_space.proofs.Told.{handed_on, handed_to, ok_err, push_cases, stands_same}
+use Rattle.free_space.proofs.Told.{reads_none, handed_on, handed_to, ok_err, push_cases, stands_same}
 use Rattle.free_space.proofs.SideSteps.{upto_more, upto_ten, got}
 use Rattle.free_space.proofs.side.open_stores.Goals as goal
 
 pub loop-place-init : goal.loop-place-init
 loop-place-init g c = record {
-  reads = record {
-    keeps = record {
-      is_steady = g.met.H.Shelf.steady_none c.args.shelf.now;
-      takes = λ set kind. refl;
-      faults = record { later = omega arith; cause = λ failed. absurd failed; alive = λ fine. c.requires.live; dead = λ failed. absurd failed };
-      fetches = omega arith;
-    };
-    same = same_none (g.H.Shelf.seen c.args.shelf.now);
-    few = omega arith;
-  };
+  reads = reads_more (reads_none (g.H.Shelf.seen c.args.shelf.now) (g.met.H.Shelf.steady_none c.args.shelf.now) c.requires.live) (omega arith);
   count = ap length c.new-stores.ensures.items;
   each = λ k store is. let wrong = sym (ap (λ (l : _). slice_get l k) c.new-stores.ensures.items) ∙ is in cc;
 }
