@@ -13,3 +13,4 @@ pub mod View
 pub mod Volume
 pub mod SideLaws
 pub mod Sides
+pub mod SideForest

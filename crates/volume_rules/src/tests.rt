@@ -12,6 +12,8 @@ fn the_laws_can_be_called(_rt: HostRuntime) {
     deltas_keep_rule_4();
     deltas_keep_rule_5();
     deltas_keep_rule_7();
+    sides_are_a_forest();
+    sides_act_alike();
     examples_are_kept();
     examples_are_broken();
     pointers_lead_home();
