@@ -14,3 +14,4 @@ pub mod Volume
 pub mod SideLaws
 pub mod Sides
 pub mod SideForest
+pub mod SideExamples

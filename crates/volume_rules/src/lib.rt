@@ -30,7 +30,10 @@ pub use events::{
     deletions_are_lawful, insertions_are_lawful, reorganizations_turn, replacements_are_lawful,
     switches_are_lawful, turns_are_lawful, units_are_lawful,
 };
-pub use examples::{events_can_happen, examples_are_broken, examples_are_kept};
+pub use examples::{
+    events_can_happen, example_sides_are_broken, example_sides_are_kept, examples_are_broken,
+    examples_are_kept,
+};
 pub use pointers::{
     entries_hang, gone_are_unpointed, pointers_hang, pointers_lead_home, roots_stand,
 };

@@ -16,6 +16,8 @@ fn the_laws_can_be_called(_rt: HostRuntime) {
     sides_act_alike();
     examples_are_kept();
     examples_are_broken();
+    example_sides_are_kept();
+    example_sides_are_broken();
     pointers_lead_home();
     roots_stand();
     tests_tell();
