@@ -15,3 +15,4 @@ pub mod SideLaws
 pub mod Sides
 pub mod SideForest
 pub mod SideExamples
+pub mod SideEvents

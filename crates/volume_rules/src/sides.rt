@@ -1,3 +1,4 @@
+ghost use Rattle.volume_rules.specs.SideEvents.{EventsMoveRows};
 ghost use Rattle.volume_rules.specs.SideForest.{SidesActAlike, SidesAreAForest};
 ghost use Rattle.volume_rules.specs.SideLaws.{DeltasKeepRule4, DeltasKeepRule5, DeltasKeepRule7};
 
@@ -37,3 +38,8 @@ pub fn sides_act_alike()
     changes_stay_within();
     insertions_stay_within();
 }
+
+/// Insertion, replacement, deletion, START, PAUSE, RESUME, a heal and the switch move the rows so that rule 5 is kept.
+pub fn events_move_rows()
+    ensures { EventsMoveRows }
+{}

@@ -14,6 +14,7 @@ fn the_laws_can_be_called(_rt: HostRuntime) {
     deltas_keep_rule_7();
     sides_are_a_forest();
     sides_act_alike();
+    events_move_rows();
     examples_are_kept();
     examples_are_broken();
     example_sides_are_kept();
