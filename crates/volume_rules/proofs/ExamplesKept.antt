@@ -72,45 +72,46 @@ row_met (p ∷ placed) home s h un = go (same_home home p.home) p.segment.copied
     go false false true e c m h more = or_right (p.home.addr == home.addr) (list_any (λ (r : Homed). r.addr == home.addr) (rows_at placed home.number)) (more h un)
 
 -- two segments that aren't copied stand at two homes
-abbrev apart : Placed → Placed → Bool
-apart p q = q.segment.copied || not (p.home.number == q.home.number) || not (p.home.addr == q.home.addr)
+-- two rows of one generation pass a test
+abbrev pub apart : (Homed → Homed → Bool) → Placed → Placed → Bool
+apart test p q = q.segment.copied || not (p.home.number == q.home.number) || test (homed p) (homed q)
 
-others_apart : (p : Placed) (placed : List Placed) → list_all (apart p) placed ≡ true → list_all (λ (r : Homed). not (p.home.addr == r.addr)) (rows_at placed p.home.number) ≡ true
-others_apart p [] h = refl
-others_apart p (q ∷ placed) h =
-    let parts = and_parts (apart p q) (list_all (apart p) placed) h in
-    go q.segment.copied (q.home.number == p.home.number) refl parts.0 (others_apart p placed parts.1)
+others_apart : (test : Homed → Homed → Bool) (p : Placed) (placed : List Placed) → list_all (apart test p) placed ≡ true → list_all (test (homed p)) (rows_at placed p.home.number) ≡ true
+others_apart test p [] h = refl
+others_apart test p (q ∷ placed) h =
+    let parts = and_parts (apart test p q) (list_all (apart test p) placed) h in
+    go q.segment.copied (q.home.number == p.home.number) refl parts.0 (others_apart test p placed parts.1)
   where
-    go : (copied b : Bool) → (q.home.number == p.home.number) ≡ b → (copied || not (p.home.number == q.home.number) || not (p.home.addr == q.home.addr)) ≡ true
-        → list_all (λ (r : Homed). not (p.home.addr == r.addr)) (rows_at placed p.home.number) ≡ true
-        → list_all (λ (r : Homed). not (p.home.addr == r.addr)) (cond copied (rows_at placed p.home.number) (cond b (homed q ∷ rows_at placed p.home.number) (rows_at placed p.home.number))) ≡ true
+    go : (copied b : Bool) → (q.home.number == p.home.number) ≡ b → (copied || not (p.home.number == q.home.number) || test (homed p) (homed q)) ≡ true
+        → list_all (test (homed p)) (rows_at placed p.home.number) ≡ true
+        → list_all (test (homed p)) (cond copied (rows_at placed p.home.number) (cond b (homed q ∷ rows_at placed p.home.number) (rows_at placed p.home.number))) ≡ true
     go true b e h rest = rest
     go false false e h rest = rest
     go false true e h rest =
         let same : (p.home.number == q.home.number) ≡ true = eq-eqb p.home.number q.home.number (sym (eqb-true q.home.number p.home.number e)) in
-        let at : not (p.home.addr == q.home.addr) ≡ true = subst (λ (b : Bool). (not b || not (p.home.addr == q.home.addr)) ≡ true) same h in
-        and_from (not (p.home.addr == q.home.addr)) (list_all (λ (r : Homed). not (p.home.addr == r.addr)) (rows_at placed p.home.number)) at rest
+        let at : test (homed p) (homed q) ≡ true = subst (λ (b : Bool). (not b || test (homed p) (homed q)) ≡ true) same h in
+        and_from (test (homed p) (homed q)) (list_all (test (homed p)) (rows_at placed p.home.number)) at rest
 
-each_apart : (placed : List Placed) → all_pairs apart placed ≡ true → (number : ℕ) → all_pairs (λ (a b : Homed). not (a.addr == b.addr)) (rows_at placed number) ≡ true
-each_apart [] h number = refl
-each_apart (p ∷ placed) h number =
-    let parts = and_parts (list_all (apart p) placed) (all_pairs apart placed) h in
-    go p.segment.copied (p.home.number == number) refl parts.0 (each_apart placed parts.1 number)
+pub each_apart : (test : Homed → Homed → Bool) (placed : List Placed) → all_pairs (apart test) placed ≡ true → (number : ℕ) → all_pairs test (rows_at placed number) ≡ true
+each_apart test [] h number = refl
+each_apart test (p ∷ placed) h number =
+    let parts = and_parts (list_all (apart test p) placed) (all_pairs (apart test) placed) h in
+    go p.segment.copied (p.home.number == number) refl parts.0 (each_apart test placed parts.1 number)
   where
-    go : (copied b : Bool) → (p.home.number == number) ≡ b → list_all (apart p) placed ≡ true → all_pairs (λ (a b : Homed). not (a.addr == b.addr)) (rows_at placed number) ≡ true
-        → all_pairs (λ (a b : Homed). not (a.addr == b.addr)) (cond copied (rows_at placed number) (cond b (homed p ∷ rows_at placed number) (rows_at placed number))) ≡ true
+    go : (copied b : Bool) → (p.home.number == number) ≡ b → list_all (apart test p) placed ≡ true → all_pairs test (rows_at placed number) ≡ true
+        → all_pairs test (cond copied (rows_at placed number) (cond b (homed p ∷ rows_at placed number) (rows_at placed number))) ≡ true
     go true b e first rest = rest
     go false false e first rest = rest
     go false true e first rest =
-        and_from (list_all (λ (r : Homed). not (p.home.addr == r.addr)) (rows_at placed number)) (all_pairs (λ (a b : Homed). not (a.addr == b.addr)) (rows_at placed number))
-        (subst (λ (n : ℕ). list_all (λ (r : Homed). not (p.home.addr == r.addr)) (rows_at placed n) ≡ true) (eqb-true p.home.number number e) (others_apart p placed first)) rest
+        and_from (list_all (test (homed p)) (rows_at placed number)) (all_pairs test (rows_at placed number))
+        (subst (λ (n : ℕ). list_all (test (homed p)) (rows_at placed n) ≡ true) (eqb-true p.home.number number e) (others_apart test p placed first)) rest
 
 rows_stand : (part : PartDef) (state : PartState) (placed : List Placed) (listed : List ListRow)
-    → list_all (λ (p : Placed). p.segment.copied || stands_in (view_of part state placed listed) p.home.number (homed p)) placed ≡ true → all_pairs apart placed ≡ true → RowsStand (view_of part state placed listed)
+    → list_all (λ (p : Placed). p.segment.copied || stands_in (view_of part state placed listed) p.home.number (homed p)) placed ≡ true → all_pairs (apart (λ (a b : Homed). not (a.addr == b.addr))) placed ≡ true → RowsStand (view_of part state placed listed)
 rows_stand part state placed listed stand apart = record {
   stand = each_row (stands_in (view_of part state placed listed)) placed stand;
   met = λ home s stands. row_met placed home s stands.here stands.uncopied;
-  once = each_apart placed apart;
+  once = each_apart (λ (a b : Homed). not (a.addr == b.addr)) placed apart;
 }
 
 pub are_kept : AreKept

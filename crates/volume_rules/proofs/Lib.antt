@@ -14,6 +14,9 @@ pub mod Pointing
 pub mod Reading
 pub mod Rises
 pub mod Roots
+pub mod RowEvents
+pub mod SideExamplesKept
+pub mod SideForests
 pub mod SidesKept
 pub mod Switch
 pub mod Tested

@@ -102,11 +102,11 @@ module _ (view : View) (kept : RowsStand view) (number : ℕ) where
       go false e here any more = more any
 
 -- the words of a segment and of a row, one by one
-record Words (row : Row) (s : Segment) : Type 0 where
-  uncopied : s.copied ≡ false
-  code : s.code ≡ row.code
-  name : s.name ≡ row.name
-  content : s.content ≡ row.content
+pub record Words (row : Row) (s : Segment) : Type 0 where
+  pub uncopied : s.copied ≡ false
+  pub code : s.code ≡ row.code
+  pub name : s.name ≡ row.name
+  pub content : s.content ≡ row.content
 
 not_true : (b : Bool) → not b ≡ true → b ≡ false
 not_true true h = cc
@@ -133,12 +133,12 @@ from_words row s w =
     ((bytes_eq-Decides s.content row.content).1 w.content)
 
 -- the segment of a row at an address
-record At (view : View) (home : Home) (row : Row) : Type 0 where
-  s : Segment
-  here : view.segments home ≡ Some s
-  words : Words row s
+pub record At (view : View) (home : Home) (row : Row) : Type 0 where
+  pub s : Segment
+  pub here : view.segments home ≡ Some s
+  pub words : Words row s
 
-at_row : (view : View) (number addr : ℕ) (r : Homed) → stands_in view number r ≡ true → r.addr ≡ addr → At view (record { number = number; addr = addr }) r.row
+pub at_row : (view : View) (number addr : ℕ) (r : Homed) → stands_in view number r ≡ true → r.addr ≡ addr → At view (record { number = number; addr = addr }) r.row
 at_row view number addr r h at = go (view.segments (record { number = number; addr = addr })) refl (subst (λ (a : ℕ). option_map_or (is_segment_of r.row) (view.segments (record { number = number; addr = a })) false ≡ true) at h)
   where
     go : (o : Option Segment) → view.segments (record { number = number; addr = addr }) ≡ o → option_map_or (is_segment_of r.row) o false ≡ true → At view (record { number = number; addr = addr }) r.row

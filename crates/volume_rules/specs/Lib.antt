@@ -13,3 +13,6 @@ pub mod View
 pub mod Volume
 pub mod SideLaws
 pub mod Sides
+pub mod SideForest
+pub mod SideExamples
+pub mod SideEvents

@@ -35,7 +35,8 @@ leads_to_root schema view number key addr = option_map_or (is_root_under schema 
 -- each row leads to a root that isn't copied, of its key; in PHIDAM each such root has its row
 pub record KeepsRule4 (schema : Schema) (view : View) (roots : RootSet) : Type 0 where
   pub lead : (number : ℕ) (key : List ℕ) (addr : ℕ) → roots number key ≡ Some addr → leads_to_root schema view number key addr ≡ true
-  pub each : schema.phdam ≡ false → (home : Home) (s : Segment) → Stands view home s → s.code ≡ 1 → roots home.number (root_row_key schema view s) ≡ Some home.addr
+  pub each : schema.phdam ≡ false → (home : Home) (s : Segment) → Stands view home s → s.code ≡ 1
+      → roots home.number (root_row_key schema view s) ≡ Some home.addr
 
 -- what becomes of a row of a root set
 pub data Rooting : Type 0 where
@@ -57,7 +58,8 @@ is_untouched _ = false
 
 -- a row that rests leads to a segment that stays; a new one leads to a root of its key
 abbrev pub OwesRooting : Schema → View → Delta → RootSet → ℕ → List ℕ → Rooting → Type 0
-OwesRooting schema view d roots number key Rests = (addr : ℕ) → roots number key ≡ Some addr → is_untouched (d.fate (record { number = number; addr = addr })) ≡ true
+OwesRooting schema view d roots number key Rests =
+    (addr : ℕ) → roots number key ≡ Some addr → is_untouched (d.fate (record { number = number; addr = addr })) ≡ true
 OwesRooting schema view d roots number key Unroots = Unit {0}
 OwesRooting schema view d roots number key (Roots addr) = leads_to_root schema (after view d) number key addr ≡ true
 
@@ -65,7 +67,8 @@ OwesRooting schema view d roots number key (Roots addr) = leads_to_root schema (
 abbrev pub OwesRoot : Schema → View → (ℕ → List ℕ → Rooting) → Home → Fate → Type 0
 OwesRoot schema view rooting home Stays = (s : Segment) → Stands view home s → s.code ≡ 1 → rooting home.number (root_row_key schema view s) ≡ Rests
 OwesRoot schema view rooting home Dropped = Unit {0}
-OwesRoot schema view rooting home (Rewritten content) = (s : Segment) → Stands view home s → s.code ≡ 1 → rooting home.number (root_row_key schema view s) ≡ Rests
+OwesRoot schema view rooting home (Rewritten content) =
+    (s : Segment) → Stands view home s → s.code ≡ 1 → rooting home.number (root_row_key schema view s) ≡ Rests
 OwesRoot schema view rooting home (Fresh s) = s.code ≡ 1 → rooting home.number (root_row_key schema view s) ≡ Roots home.addr
 OwesRoot schema view rooting home (Moved from) =
     (s : Segment) → Stands view from s → s.code ≡ 1 → rooting home.number (root_row_key schema view s) ≡ Roots home.addr

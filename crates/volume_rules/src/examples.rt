@@ -1,5 +1,6 @@
 ghost use Rattle.volume_rules.specs.Applied.{CanHappen};
 ghost use Rattle.volume_rules.specs.Examples.{AreBroken, AreKept};
+ghost use Rattle.volume_rules.specs.SideExamples.{SidesAreBroken, SidesAreKept};
 
 use forest_laws::entries_are_of_sources;
 use hal_schema::schemas_are_kept;
@@ -22,3 +23,13 @@ pub fn events_can_happen()
     schemas_are_kept();
     entries_are_of_sources();
 }
+
+/// The sides of the two volumes keep the rules 4, 5 and 7.
+pub fn example_sides_are_kept()
+    ensures { SidesAreKept }
+{}
+
+/// Partitions that break one of the rules 4, 5 and 7, a clause each.
+pub fn example_sides_are_broken()
+    ensures { SidesAreBroken }
+{}

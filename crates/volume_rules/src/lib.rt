@@ -10,6 +10,8 @@
 //! - `specs/Rising.antt`: addresses that rise along the sequence;
 //! - `specs/Delta.antt`, `specs/Events.antt`: what an event does, and what it owes;
 //! - `specs/Sides.antt`: the rules 4 and 7, and what an event owes for the rules 4, 5 and 7;
+//! - `specs/SideEvents.antt`: what the events make of the rows of the sides;
+//! - `specs/SideForest.antt`: the sides one behind another, as a forest;
 //! - `specs/Examples.antt`, `specs/Applied.antt`: volumes that there are, and events on them.
 #![tactic(auto)]
 
@@ -29,12 +31,18 @@ pub use events::{
     deletions_are_lawful, insertions_are_lawful, reorganizations_turn, replacements_are_lawful,
     switches_are_lawful, turns_are_lawful, units_are_lawful,
 };
-pub use examples::{events_can_happen, examples_are_broken, examples_are_kept};
+pub use examples::{
+    events_can_happen, example_sides_are_broken, example_sides_are_kept, examples_are_broken,
+    examples_are_kept,
+};
 pub use pointers::{
     entries_hang, gone_are_unpointed, pointers_hang, pointers_lead_home, roots_stand,
 };
 pub use rising::rising_goes_on;
-pub use sides::{deltas_keep_rule_4, deltas_keep_rule_5, deltas_keep_rule_7};
+pub use sides::{
+    deltas_keep_rule_4, deltas_keep_rule_5, deltas_keep_rule_7, events_move_rows, sides_act_alike,
+    sides_are_a_forest,
+};
 pub use telling::{alike_hold_the_same, holds_one, rules_pass_tests, tests_tell};
 
 #[cfg(test)]

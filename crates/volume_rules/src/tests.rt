@@ -12,8 +12,13 @@ fn the_laws_can_be_called(_rt: HostRuntime) {
     deltas_keep_rule_4();
     deltas_keep_rule_5();
     deltas_keep_rule_7();
+    sides_are_a_forest();
+    sides_act_alike();
+    events_move_rows();
     examples_are_kept();
     examples_are_broken();
+    example_sides_are_kept();
+    example_sides_are_broken();
     pointers_lead_home();
     roots_stand();
     tests_tell();
