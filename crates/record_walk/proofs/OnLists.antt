@@ -146,7 +146,7 @@ below_lies types deepens parent s below next h =
 
 -- ---- the chain behind a pointer
 
-bare_list : (parent : Option Ilk) (kinds : ℕ) → list_in parent (bare kinds) ≡ []
+pub bare_list : (parent : Option Ilk) (kinds : ℕ) → list_in parent (bare kinds) ≡ []
 bare_list parent zero = refl
 bare_list parent (suc kinds) = bare_list parent kinds
 
@@ -154,8 +154,8 @@ one_time : (home : ℕ) (trees : Chains) → ((o : ℕ) → times_in o trees ≤
 one_time home trees once m = let few = once home in omega (arith, few, m)
 
 -- where a segment stands among the trees of records
-segment_in : (schema : Schema) → Deepens schema.types → (cells : ℕ → Option Cell) (firsts : List ℕ) (trees : Chains) → AreRecords schema cells firsts trees → (home : ℕ) → 0 < times_in home trees → (edit : Occurrence → Chains → Twins → Twins)
-    → Split schema.types cells (level_of schema.types 1) home edit (list_in None trees) (list_in None (in_home home edit trees))
+pub segment_in : (schema : Schema) → Deepens schema.types → (cells : ℕ → Option Cell) (firsts : List ℕ) (trees : Chains) → AreRecords schema cells firsts trees → (home : ℕ) → 0 < times_in home trees → (edit : Occurrence → Chains → Twins → Twins)
+    → Split schema.types cells (level_of schema.types 1) home edit None (list_in None trees) (list_in None (in_home home edit trees))
 segment_in schema deepens cells firsts trees r home m edit =
     split_in schema.types deepens cells home edit (level_of schema.types 1) (ones trees) (ones_level schema.types trees) None trees (roots_typed schema.types trees r.typed) r.from.hang (one_time home trees r.once m)
 

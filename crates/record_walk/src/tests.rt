@@ -26,6 +26,8 @@ fn the_laws_can_be_called(_rt: HostRuntime) {
     entries_hang_in_records();
     sides_list_their_cells();
     changed_sides();
+    first_children_are_inserted();
+    first_roots_are_inserted();
     changes_of_one_side();
     sides_have_one_proof();
     sides_are_forests();
