@@ -33,7 +33,7 @@ use Rattle.record_walk.proofs.ListedCells.{seen_of}
 abbrev homes : List RootRow → List ℕ
 homes rows = map (λ (row : RootRow). row.home) rows
 
-records_of : (schema : Schema) (place : ℕ) (cells : ℕ → Option Cell) (rows : List RootRow) (trees : Chains) → IsWalked schema place cells rows trees → AreRecords schema (seen schema.phdam cells) (homes rows) trees
+pub records_of : (schema : Schema) (place : ℕ) (cells : ℕ → Option Cell) (rows : List RootRow) (trees : Chains) → IsWalked schema place cells rows trees → AreRecords schema (seen schema.phdam cells) (homes rows) trees
 records_of schema place cells rows trees w = record { from = record { hang = w.hangs; first = w.rows_lead }; typed = w.typed; once = w.once }
 
 none_some : (cell : Cell) → None ≡ Some cell → ⊥

@@ -15,7 +15,7 @@ use Rattle.record_walk.specs.OneProof.{unique_in}
 
 -- ---- homes that differ are met once
 
-met : ℕ → List ℕ → ℕ
+unfoldable pub met : ℕ → List ℕ → ℕ
 met home [] = 0
 met home (x ∷ xs) = cond (x == home) 1 0 + met home xs
 
@@ -40,7 +40,7 @@ mutual
       let d = met_append home (homes_in below) (homes_of next) in
       omega (arith, a, b, c, d)
 
-  times_met_in : (home : ℕ) (chains : Chains) → times_in home chains ≡ met home (homes_in chains)
+  pub times_met_in : (home : ℕ) (chains : Chains) → times_in home chains ≡ met home (homes_in chains)
   times_met_in home no_chain = refl
   times_met_in home (chain twins more) =
       let a = times_met home twins in
@@ -103,7 +103,7 @@ all_met trees (p ∷ list) home cell h is kept =
         subst (λ (n : ℕ). 0 < times_in n trees) (eqb-true p.0 home e) (ltb-true 0 (times_in p.0 trees) lt)
     by false e is one rest = rest is
 
-some : (n : ℕ) → nat_lt 0 n ≡ true → 0 < n
+pub some : (n : ℕ) → nat_lt 0 n ≡ true → 0 < n
 some n h = ltb-true 0 n h
 
 phidam_hangs : HangIn (seen false (cells_in (example_cells 144))) two_trees

@@ -17,3 +17,4 @@ pub mod ListedCells
 pub mod InOneSide
 pub mod ChangedSides
 pub mod FirstChildren
+pub mod ExampleChanges

@@ -16,3 +16,4 @@ pub mod SideChanges
 pub mod Firsts
 pub mod OneProof
 pub mod Examples
+pub mod ChangeExamples

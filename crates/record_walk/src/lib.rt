@@ -30,7 +30,7 @@ mod side_changes;
 mod volume;
 mod walk;
 
-pub use examples::{broken_sides, example_sides};
+pub use examples::{broken_sides, changes_make_sides, example_sides, sides_make_forests};
 pub use firsts::{first_children_are_inserted, first_roots_are_inserted};
 pub use in_records::{entries_hang_in_records, sides_list_their_cells};
 pub use listed::{

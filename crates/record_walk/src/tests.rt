@@ -5,6 +5,8 @@ use crate::*;
 fn the_laws_can_be_called(_rt: HostRuntime) {
     example_sides();
     broken_sides();
+    changes_make_sides();
+    sides_make_forests();
     trees_are_unique();
     met_cells_stand();
     changes_outside_leave();
