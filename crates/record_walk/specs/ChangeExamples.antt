@@ -2,6 +2,7 @@
 use Rattle.std.specs.Prelude.{◌≡◌, ℕ, ◌==◌, true, false, if◌then◌else◌, List, [], ◌∷◌, Option, None, Some, codes, map}
 use Rattle.std.specs.List.{list_all, list_any}
 use Rattle.std.specs.Option.{option_map}
+use Rattle.hal_schema.specs.declared.row.Row.{Row}
 use Rattle.hal_schema.specs.declared.schema.IndexDef.{IndexDef}
 use Rattle.hal_schema.specs.Entry.{entries_of}
 use Rattle.hal_schema.specs.Forest.{is_forest}
@@ -9,7 +10,7 @@ use Rattle.hal_schema.specs.Insertion.{inserted}
 use Rattle.hal_schema.specs.Row.{row_key}
 use Rattle.hal_schema.specs.Span.{without_span}
 use Rattle.segment_blocks.specs.declared.tile.Cell.{Cell}
-use Rattle.record_walk.specs.Tree.{no_segment, segment, Chains, no_chain, chain}
+use Rattle.record_walk.specs.Tree.{Twins, no_segment, segment, Chains, no_chain, chain}
 use Rattle.record_walk.specs.Listing.{Placed, placed, list_in, rows_of}
 use Rattle.record_walk.specs.Pointers.{Behind, Below, Root, with_segment, without_segment, with_content_at}
 use Rattle.record_walk.specs.Side.{RootRow, IsSideOf}
@@ -40,29 +41,41 @@ phdam_cells = cells_in (example_cells 96)
 abbrev pub anchor_row : ℕ → ℕ → RootRow
 anchor_row anchor home = row (0 ∷ 0 ∷ 0 ∷ anchor ∷ []) home
 
+-- the cells of the first root and of the second with another pointer, and new roots
+abbrev pub first_root : ℕ → List ℕ → ℕ × Cell
+first_root twin children = cell_at_home 16 1 twin children (codes "001aa")
+
+abbrev pub root_cell : ℕ → List ℕ → ℕ × Cell
+root_cell twin content = cell_at_home 176 1 twin (0 ∷ 0 ∷ []) content
+
+-- the cell of the second root with a first child, and that child
+abbrev pub with_child : (ℕ → Option Cell) → ℕ → Option Cell
+with_child cells = put (cell_at_home 96 1 0 (128 ∷ 0 ∷ []) (codes "700bb")) (put (cell_at_home 128 2 0 (0 ∷ []) (codes "05zz")) cells)
+
 -- what the changes make is a side each time
 pub record ChangesMakeSides : Type 0 where
   -- a first child; a twin behind the last
-  pub first_child : IsSideOf phidam 0 (put (cell_at_home 96 1 0 (128 ∷ 0 ∷ []) (codes "700bb")) (put (cell_at_home 128 2 0 (0 ∷ []) (codes "05zz")) phidam_cells)) two_rows
-      (with_segment (Below 96 0) (at 128 2 (codes "05zz")) 1 two_trees)
-  pub behind_twin : IsSideOf phidam 0 (put (cell_at_home 80 2 160 (0 ∷ []) (codes "01yy")) (put (cell_at_home 160 2 0 (0 ∷ []) (codes "09ww")) phidam_cells)) two_rows
+  pub first_child : IsSideOf phidam 0 (with_child phidam_cells) two_rows (with_segment (Below 96 0) (at 128 2 (codes "05zz")) 1 two_trees)
+  pub behind_twin : IsSideOf phidam 0
+      (put (cell_at_home 80 2 160 (0 ∷ []) (codes "01yy")) (put (cell_at_home 160 2 0 (0 ∷ []) (codes "09ww")) phidam_cells)) two_rows
       (with_segment (Behind 80) (at 160 2 (codes "09ww")) 1 two_trees)
   -- in PHIDAM a root, whose row comes first; in PHDAM one behind a root of its anchor, one before them, and one of an anchor that had none
-  pub new_root : IsSideOf phidam 0 (put (cell_at_home 176 1 0 (0 ∷ 0 ∷ []) (codes "500ee")) phidam_cells)
+  pub new_root : IsSideOf phidam 0 (put (root_cell 0 (codes "500ee")) phidam_cells)
       (row (codes "001") 16 ∷ row (codes "500") 176 ∷ row (codes "700") 96 ∷ []) (with_segment (Root 1) (at 176 1 (codes "500ee")) 2 (with_row 1 two_trees))
-  pub behind_root : IsSideOf phdam 0 (put (cell_at_home 16 1 176 (32 ∷ 112 ∷ []) (codes "001aa")) (put (cell_at_home 176 1 96 (0 ∷ 0 ∷ []) (codes "300ff")) phdam_cells)) one_row
+  pub behind_root : IsSideOf phdam 0 (put (first_root 176 (32 ∷ 112 ∷ [])) (put (root_cell 96 (codes "300ff")) phdam_cells)) one_row
       (with_segment (Behind 16) (at 176 1 (codes "300ff")) 2 one_tree)
-  pub before_roots : IsSideOf phdam 0 (put (cell_at_home 176 1 16 (0 ∷ 0 ∷ []) (codes "  1hh")) phdam_cells) (anchor_row 1 176 ∷ [])
+  pub before_roots : IsSideOf phdam 0 (put (root_cell 16 (codes "  1hh")) phdam_cells) (anchor_row 1 176 ∷ [])
       (with_segment (Root 0) (at 176 1 (codes "  1hh")) 2 one_tree)
-  pub new_anchor : IsSideOf phdam 0 (put (cell_at_home 176 1 0 (0 ∷ 0 ∷ []) (codes "000kk")) phdam_cells) (anchor_row 0 176 ∷ one_row)
+  pub new_anchor : IsSideOf phdam 0 (put (root_cell 0 (codes "000kk")) phdam_cells) (anchor_row 0 176 ∷ one_row)
       (with_segment (Root 0) (at 176 1 (codes "000kk")) 2 (with_row 0 one_tree))
   -- a first child goes with what is below it; a root goes, and its row; a record was copied
-  pub cut_child : IsSideOf phidam 0 (put (cell_at_home 16 1 144 (80 ∷ 112 ∷ []) (codes "001aa")) (gone (32 ∷ 64 ∷ 48 ∷ []) phidam_cells)) two_rows
+  pub cut_child : IsSideOf phidam 0 (put (first_root 144 (80 ∷ 112 ∷ [])) (gone (32 ∷ 64 ∷ 48 ∷ []) phidam_cells)) two_rows
       (without_segment (Below 16 0) two_trees)
   pub cut_root : IsSideOf phidam 0 (gone (96 ∷ []) phidam_cells) (row (codes "001") 16 ∷ []) (without_row 1 (without_segment (Root 1) two_trees))
   pub copied : IsSideOf phdam 0 (marked (16 ∷ 32 ∷ 64 ∷ 48 ∷ 80 ∷ 112 ∷ []) phdam_cells) (anchor_row 1 96 ∷ []) (without_segment (Root 0) one_tree)
   -- another content of a root, under its key
-  pub replaced : IsSideOf phidam 0 (put (cell_at_home 16 1 144 (32 ∷ 112 ∷ []) (codes "001zz")) phidam_cells) two_rows (with_content_at 16 (codes "001zz") two_trees)
+  pub replaced : IsSideOf phidam 0 (put (cell_at_home 16 1 144 (32 ∷ 112 ∷ []) (codes "001zz")) phidam_cells) two_rows
+      (with_content_at 16 (codes "001zz") two_trees)
 
 -- the output of a partition that moves, with one record, and its input with the other, which is of cells that are left
 abbrev pub output : PlacedSide
@@ -80,11 +93,32 @@ shorter = record output { trees = without_segment (Below 16 0) (chain (r1 no_seg
 
 -- an index of G, with its C as the target
 abbrev pub by_g : IndexDef
-by_g = record { seg = codes "C"; name = codes "IX"; xdfld = codes "XG"; source = 3; target = 2; search = record { name = codes "GG"; start = 1; bytes = 2 } ∷ []; subseq = [] }
+by_g = record {
+  seg = codes "C";
+  name = codes "IX";
+  xdfld = codes "XG";
+  source = 3;
+  target = 2;
+  search = record { name = codes "GG"; start = 1; bytes = 2 } ∷ [];
+  subseq = [];
+}
 
 -- two C of falling keys below a root
+abbrev pub falling_c : Twins
+falling_c = c_at 32 (codes "05xx") no_segment (c_at 80 (codes "01yy") no_segment no_segment)
+
 abbrev pub falling_twins : Chains
-falling_twins = chain (segment (at 16 1 (codes "001aa")) (chain (c_at 32 (codes "05xx") no_segment (c_at 80 (codes "01yy") no_segment no_segment)) (chain no_segment no_chain)) no_segment) no_chain
+falling_twins = chain (segment (at 16 1 (codes "001aa")) (chain falling_c (chain no_segment no_chain)) no_segment) no_chain
+
+abbrev pub home_of : Placed → ℕ
+home_of p = p.home
+
+abbrev pub the_row : Placed → Row
+the_row p = p.row
+
+-- the key of the root of the record in which a home of the example hangs
+abbrev pub key_above : ℕ → Option (List ℕ)
+key_above home = option_map (row_key example_types) (root_above home_of the_row None (list_in None two_trees) home)
 
 pub record SidesMakeForests : Type 0 where
   pub in_order : AreSidesInOrder phidam (output ∷ input ∷ [])
@@ -95,13 +129,14 @@ pub record SidesMakeForests : Type 0 where
   pub twins_fall : twins_follow_in phidam falling_twins ≡ false
   pub no_twins : is_forest phidam (rows_of (list_in None falling_twins)) ≡ false
   -- changes of one side
-  pub grown_list : rows_in_all (output ∷ grown ∷ []) ≡ inserted phidam (rows_in_all (output ∷ input ∷ [])) (placed (Some (name_at 96)) (at 128 2 (codes "05zz"))).row
+  pub grown_list : rows_in_all (output ∷ grown ∷ [])
+      ≡ inserted phidam (rows_in_all (output ∷ input ∷ [])) (placed (Some (name_at 96)) (at 128 2 (codes "05zz"))).row
   pub shorter_list : rows_in_all (shorter ∷ input ∷ []) ≡ without_span example_types (rows_in_all (output ∷ input ∷ [])) (name_at 32)
-  pub root_list : rows_of (list_in None (with_segment (Root 1) (at 176 1 (codes "500ee")) 2 (with_row 1 two_trees))) ≡ inserted phidam (rows_of (list_in None two_trees)) (placed None (at 176 1 (codes "500ee"))).row
+  pub root_list : rows_of (list_in None (with_segment (Root 1) (at 176 1 (codes "500ee")) 2 (with_row 1 two_trees)))
+      ≡ inserted phidam (rows_of (list_in None two_trees)) (placed None (at 176 1 (codes "500ee"))).row
   -- the entries of the two G lead to the first C, which hangs in the record of the key 001
   pub entries : entries_of example_types by_g (rows_of (listed (output ∷ input ∷ [])))
       ≡ record { key = codes "g1"; target = name_at 32; root = codes "001" } ∷ record { key = codes "g2"; target = name_at 32; root = codes "001" } ∷ []
-  pub hang : list_all (λ entry. list_all (hangs_by example_types (λ (p : Placed). p.home) (λ (p : Placed). p.row) (list_in None output.trees) entry) (list_in None output.trees))
+  pub hang : list_all (λ entry. list_all (hangs_by example_types home_of the_row (list_in None output.trees) entry) (list_in None output.trees))
       (entries_of example_types by_g (rows_of (listed (output ∷ input ∷ [])))) ≡ true
-  pub above : map (λ home. option_map (row_key example_types) (root_above (λ (p : Placed). p.home) (λ (p : Placed). p.row) None (list_in None two_trees) home)) (16 ∷ 48 ∷ 112 ∷ 96 ∷ 128 ∷ [])
-      ≡ Some (codes "001") ∷ Some (codes "001") ∷ Some (codes "001") ∷ Some (codes "700") ∷ None ∷ []
+  pub above : map key_above (16 ∷ 48 ∷ 112 ∷ 96 ∷ 128 ∷ []) ≡ Some (codes "001") ∷ Some (codes "001") ∷ Some (codes "001") ∷ Some (codes "700") ∷ None ∷ []
