@@ -39,10 +39,10 @@ records_of schema place cells rows trees w = record { from = record { hang = w.h
 none_some : (cell : Cell) → None ≡ Some cell → ⊥
 none_some cell e = cc
 
-some_is : (a b : Cell) → Some a ≡ Some b → a ≡ b
+pub some_is : (a b : Cell) → Some a ≡ Some b → a ≡ b
 some_is a b e = cc
 
-some_home : (a b : ℕ) → Some a ≡ Some b → a ≡ b
+pub some_home : (a b : ℕ) → Some a ≡ Some b → a ≡ b
 some_home a b e = cc
 
 -- ---- rows of the root set

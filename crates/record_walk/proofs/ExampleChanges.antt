@@ -17,15 +17,9 @@ use Rattle.record_walk.specs.ChangeExamples.{put, gone, marked, phidam_cells, ph
 use Rattle.record_walk.specs.Volume.{AreAllSides, AreSidesInOrder, SidesAreForests}
 use Rattle.record_walk.specs.InRecords.{EntriesHangInRecords}
 use Rattle.record_walk.specs.OneSide.{ChangesOfOneSide}
-use Rattle.record_walk.specs.Firsts.{FirstChildrenAreInserted, FirstRootsAreInserted}
+use Rattle.record_walk.specs.Firsts.{stays_behind, FirstChildrenAreInserted, FirstRootsAreInserted, LaterRootsAreInserted}
 use Rattle.record_walk.proofs.ExampleSides.{met, times_met_in, sides, some}
-use Rattle.record_walk.proofs.ChangedSides.{records_of}
-
-some_home : (a b : ℕ) → Some a ≡ Some b → a ≡ b
-some_home a b e = cc
-
-some_cell : (a b : Cell) → Some a ≡ Some b → a ≡ b
-some_cell a b e = cc
+use Rattle.record_walk.proofs.ChangedSides.{records_of, some_is, some_home}
 
 none_home : (b : ℕ) → None ≡ Some b → ⊥
 none_home b e = cc
@@ -55,7 +49,7 @@ in_below above place cell cells firsts trees m stands few = record {
   met = λ home e. subst (λ (n : ℕ). 0 < times_in n trees) (some_home above home e) m;
   child = λ a p c e is.
       let same : above ≡ a = some_home above a (ap stands_in e) in
-      let cell_is : cell ≡ c = some_cell cell c (sym stands ∙ ap cells same ∙ is) in
+      let cell_is : cell ≡ c = some_is cell c (sym stands ∙ ap cells same ∙ is) in
       let place_is : place ≡ p = ap place_of e in
       let long : length cell.children ≡ length c.children = ap (λ (x : Cell). length x.children) cell_is in
       omega (arith, place_is, long, few);
@@ -180,7 +174,7 @@ marked_out homes cells = record {
   where
     copied : (o : Option Cell) (cell : Cell) → option_map (λ (c : Cell). record c { copied = true }) o ≡ Some cell → cell.copied ≡ true
     copied None cell e = cc
-    copied (Some c) cell e = sym (ap (λ (x : Cell). x.copied) (some_cell (record c { copied = true }) cell e))
+    copied (Some c) cell e = sym (ap (λ (x : Cell). x.copied) (some_is (record c { copied = true }) cell e))
 
 -- a cut at a row, and one in a cell
 cut_row : (place to : ℕ) (homes : List ℕ) (cells left : ℕ → Option Cell) → LeftOut homes cells left → (old now : Chains) → Leaves homes old now → SetsPointer (Root place) to cells left (Stays old now)
@@ -234,7 +228,7 @@ fits_behind schema place cells rows prior cell new trees own there key rise chai
   at_head = λ k q e is. absurd (off k e);
   behind = λ p c e is.
       let same : prior ≡ p = some_home prior p (ap stands_in e) in
-      key ∙ (λ i. row_key_of schema (segment_in (same i) (some_cell cell c (sym there ∙ ap cells same ∙ is) i)));
+      key ∙ (λ i. row_key_of schema (segment_in (same i) (some_is cell c (sym there ∙ ap cells same ∙ is) i)));
   rising = rise;
   chained = λ p e. chained;
   single = λ e. absurd (true≢false (sym chained ∙ e));
@@ -337,7 +331,7 @@ make_sides changed =
           let cell : ℕ × Cell = cell_at_home 16 1 144 (32 ∷ 112 ∷ []) (codes "001zz") in
           changed.side phidam 0 (put cell phidam_cells) two_rows (with_content_at 16 (codes "001zz") two_trees)
           (changed.replaces phidam 0 phidam_cells (put cell phidam_cells) two_rows two_trees 16 (codes "001zz") w refl (λ other off. put_off cell phidam_cells other (λ e. off (sym e)))
-          (λ c is one. subst (λ (q : Cell). key_of phidam (segment_in 16 (set_content (codes "001zz") q)) ≡ key_of phidam (segment_in 16 q)) (some_cell (cell_16 144) c is) refl)) refl;
+          (λ c is one. subst (λ (q : Cell). key_of phidam (segment_in 16 (set_content (codes "001zz") q)) ≡ key_of phidam (segment_in 16 q)) (some_is (cell_16 144) c is) refl)) refl;
     }
 
 pub moved : ChangedSides → IsSideOf phidam 0 (marked (16 ∷ 32 ∷ 64 ∷ 48 ∷ 80 ∷ 112 ∷ []) phidam_cells) (row (codes "700") 96 ∷ []) (without_row 0 (without_segment (Root 0) two_trees))
@@ -353,9 +347,9 @@ moved changed =
     (changed.cuts phidam 0 phidam_cells left two_rows two_trees (Root 0) (cell_16 0) w (in_root 0 (seen false phidam_cells) (homes two_rows) two_trees (some 2 refl)) (some 16 refl) refl
     (cut_row 0 0 hs phidam_cells left (marked_out hs phidam_cells) two_trees result l) (λ home c m none is. left_copied hs phidam_cells left (marked_out hs phidam_cells) two_trees result l home c m none is)) refl refl) refl
 
-pub make_forests : ChangedSides → ChangesOfOneSide → FirstChildrenAreInserted → FirstRootsAreInserted → EntriesHangInRecords → SidesAreForests → SidesMakeForests
+pub make_forests : ChangedSides → ChangesOfOneSide → FirstChildrenAreInserted → FirstRootsAreInserted → LaterRootsAreInserted → EntriesHangInRecords → SidesAreForests → SidesMakeForests
 unfolding here
-make_forests changed one_side first_children first_roots hang forests =
+make_forests changed one_side first_children first_roots later_roots hang forests =
     let all : AreAllSides phidam (output ∷ input ∷ []) = ((make_sides changed).cut_root, (moved changed, tt)) in
     let order : AreSidesInOrder phidam (output ∷ input ∷ []) = record { each = all; twins = refl; order = refl } in
     let cells : ℕ → Option Cell = seen false input.cells in
@@ -374,6 +368,16 @@ make_forests changed one_side first_children first_roots hang forests =
       root_list = first_roots phidam (with_row 1 two_trees) 1 (at 176 1 (codes "500ee")) 2 refl (ltb-true 1 3 refl) refl refl;
       entries = refl;
       hang = hang phidam [] (input ∷ []) output by_g all refl;
+      before_list =
+          first_children phidam (seen false phidam_cells) (homes two_rows) two_trees 16 0 (cell_16 0) (at 128 2 (codes "00qq")) 1 (records_of phidam 0 phidam_cells two_rows two_trees (changed.walked phidam 0 phidam_cells two_rows two_trees sides.phidam_side))
+          (in_below 16 0 (cell_16 0) (seen false phidam_cells) (homes two_rows) two_trees (some (times_in 16 two_trees) refl) refl (some 2 refl)) refl refl refl refl
+          (λ cell _ is. subst (λ (q : Cell). stays_behind phidam (at 128 2 (codes "00qq")) (segment_in 32 q) ≡ true) (some_is ((cell_at_home 32 2 80 (64 ∷ []) (codes "01xx")).1) cell is) refl);
+      stays = refl;
+      goes = refl;
+      behind_list = later_roots phdam (seen true phdam_cells) (16 ∷ []) one_tree 16 (cell_16 96) (at 176 1 (codes "300ff")) 2
+          (records_of phdam 0 phdam_cells one_row one_tree (changed.walked phdam 0 phdam_cells one_row one_tree sides.phdam_side)) (some (times_in 16 one_tree) refl) refl refl refl refl;
+      own_key = refl;
+      other_key = refl;
       above = refl;
     }
   where

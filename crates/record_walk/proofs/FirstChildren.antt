@@ -1,5 +1,5 @@
 -- First children and first roots were inserted at their places.
-use Rattle.std.proofs.Common.{◌≡◌, ℕ, zero, suc, ◌+◌, ◌<◌, ◌≤◌, ◌==◌, nat_lt, Bool, true, false, not, cond, ◌&&◌, ◌||◌, List, [], ◌∷◌, ◌++◌, length, Option, None, Some, ◌⊎◌, inl, inr, refl, sym, ap, subst, ◌∙◌, arith}
+use Rattle.std.proofs.Common.{◌≡◌, ℕ, zero, suc, ◌+◌, ◌<◌, ◌≤◌, ◌==◌, nat_lt, Bool, true, false, not, cond, ◌&&◌, ◌||◌, List, [], ◌∷◌, ◌++◌, length, Option, None, Some, ◌⊎◌, inl, inr, refl, sym, ap, subst, ◌∙◌, arith, if◌then◌else◌}
 use Rattle.std.specs.Prelude.{slice_index}
 use Rattle.std.specs.Cmp.{IsTotalOrder}
 use Rattle.std.specs.List.{list_all, slice_get, AllByRecursion}
@@ -26,21 +26,24 @@ use Rattle.segment_blocks.specs.declared.tile.Cell.{Cell}
 use Rattle.forest_laws.proofs.Lists.{Among, among_passes, among_append, among_left, among_right, all_append, all_among, all_weaker, pairs_at, pairs_parts}
 use Rattle.forest_laws.proofs.Names.{parents_are, apart_names, same_some}
 use Rattle.forest_laws.proofs.Order.{order_total}
-use Rattle.record_walk.specs.Tree.{Occurrence, Twins, no_segment, segment, Chains, no_chain, chain, first_of, firsts_of, cell_of, Hangs, HangIn, child_codes, are_of, are_chains_of, are_roots}
+use Rattle.record_walk.proofs.RecordOf.{among_row}
+use Rattle.record_walk.specs.Tree.{Occurrence, Twins, no_segment, segment, Chains, no_chain, chain, first_of, firsts_of, cell_of, Hangs, HangIn, times, times_in, child_codes, are_of, are_chains_of, are_roots}
 use Rattle.record_walk.specs.Listing.{Placed, placed, list_of, list_in, rows_of}
-use Rattle.record_walk.specs.Pointers.{Below, with_chain, before_twins, with_segment}
+use Rattle.record_walk.specs.Pointers.{Behind, Below, Root, with_chain, at_home, in_home, before_twins, with_segment}
 use Rattle.record_walk.specs.Side.{heads_of, heads_in, key_of, roots_rise}
 use Rattle.record_walk.specs.Siblings.{row_of, twins_follow, twins_follow_in}
 use Rattle.record_walk.specs.Changes.{leads_to}
 use Rattle.record_walk.specs.Spans.{starts_upto}
-use Rattle.record_walk.specs.Firsts.{stays_behind, FirstChildrenAreInserted, FirstRootsAreInserted}
-use Rattle.record_walk.proofs.Levels.{Deepens, AtLevel, children_level, typed, is_deep, deep_in, starts_append, starts_of, starts_in, starts_less}
-use Rattle.record_walk.proofs.Splitting.{Fence}
+use Rattle.record_walk.specs.Firsts.{stays_behind, FirstChildrenAreInserted, FirstRootsAreInserted, LaterRootsAreInserted}
+use Rattle.record_walk.proofs.Levels.{Typed, Deepens, AtLevel, children_level, typed, is_deep, deep_in, starts_append, starts_of, starts_in, starts_less}
+use Rattle.record_walk.proofs.Splitting.{absent, absent_in, split_in, Fence}
 use Rattle.record_walk.proofs.OnLists.{deepens, segment_in as segment_at, bare_list}
+use Rattle.record_walk.proofs.Homes.{here_off}
+use Rattle.record_walk.proofs.KeptRecords.{from_typed}
 use Rattle.record_walk.proofs.ByName.{append_rows, begins, inserted_between}
 use Rattle.record_walk.proofs.Rising.{either, apart, Named, Under, Top, Inner, under, topped, Topped, parted, not_above, pairs_rows, by_key, by_key_of, pairs_of, keys_of, heads_tell, heads_tell_in, Climbing, children_climb, head_codes, heads_high, root_codes, named_roots}
 use Rattle.record_walk.proofs.Joined.{rows_pass}
-use Rattle.record_walk.proofs.InOneSide.{among_placed, AllBefore, none_before, top_trees, at_front, head_in, root_before, root_behind, deeper_off, strange, stands_off, truth_off}
+use Rattle.record_walk.proofs.InOneSide.{AllBefore, none_before, top_trees, at_front, head_in, root_before, root_behind, deeper_off, strange, stands_off, truth_off}
 
 -- ---- twins that follow one another
 
@@ -285,6 +288,17 @@ inserted_placed schema new parent head last tail back before b =
 
 -- ---- a first child
 
+-- the rows of segments are among those of their chains
+head_among : (q : Option Ilk) (w : Twins) (u : Occurrence) → Among u (heads_of w) → Among (placed q u) (list_of q w)
+head_among q no_segment u a = absurd a
+head_among q (segment v under later) u (inl e) = inl (ap (placed q) e)
+head_among q (segment v under later) u (inr a) = inr (among_right (placed q u) (list_in (Some v.name) under) (list_of q later) (head_among q later u a))
+
+heads_among : (q : Option Ilk) (w : Chains) (u : Occurrence) → Among u (heads_in w) → Among (placed q u) (list_in q w)
+heads_among q no_chain u a = absurd a
+heads_among q (chain v m) u a = either {P = Among u (heads_of v)} {Q = Among u (heads_in m)} {R = Among (placed q u) (list_of q v ++ list_in q m)} (λ k. among_left (placed q u) (list_of q v) (list_in q m) (head_among q v u k))
+    (λ k. among_right (placed q u) (list_of q v) (list_in q m) (heads_among q m u k)) (among_append u (heads_of v) (heads_in m) a)
+
 -- what is known of the place of a new first child
 record Found (schema : Schema) (cells : ℕ → Option Cell) (new : Occurrence) (parent : Option Ilk) (s : Occurrence) (below : Chains) (next : Twins) (front back : List Placed) : Type 0 where
   pub fence : Fence parent s below next front back
@@ -350,27 +364,12 @@ child_found kept schema cells new kinds parent s below next front back leads cha
         heads_tell test name y.twins named_twins (λ p a strange_row. stranger schema new s.name p (other p (among_right p before (twins ++ more) (among_left p twins more a))) strange_row)
         ∙ all_among (λ u. test (placed name u)) (heads_of y.twins)
         (λ u a. twin_off schema new u s.name (λ e. other (placed name u) (among_right (placed name u) before (twins ++ more) (among_left (placed name u) twins more (head_among name y.twins u a))) e) (head_codes types new.code y.twins y.typed u a) (among_passes (stays_behind schema new) u (heads_of y.twins) a stays))
-      where
-        head_among : (q : Option Ilk) (w : Twins) (u : Occurrence) → Among u (heads_of w) → Among (placed q u) (list_of q w)
-        head_among q no_segment u a = absurd a
-        head_among q (segment v under later) u (inl e) = inl (ap (placed q) e)
-        head_among q (segment v under later) u (inr a) = inr (among_right (placed q u) (list_in (Some v.name) under) (list_of q later) (head_among q later u a))
 
     more_off : list_all test more ≡ true
     more_off =
         heads_tell_in test name y.more named_more (λ p a strange_row. stranger schema new s.name p (other p (among_right p before (twins ++ more) (among_right p twins more a))) strange_row)
         ∙ all_among (λ u. test (placed name u)) (heads_in y.more)
         (λ u a. higher_off schema new u s.name (λ e. other (placed name u) (among_right (placed name u) before (twins ++ more) (among_right (placed name u) twins more (heads_among name y.more u a))) e) (y.high u a))
-      where
-        head_among : (q : Option Ilk) (w : Twins) (u : Occurrence) → Among u (heads_of w) → Among (placed q u) (list_of q w)
-        head_among q no_segment u a = absurd a
-        head_among q (segment v under later) u (inl e) = inl (ap (placed q) e)
-        head_among q (segment v under later) u (inr a) = inr (among_right (placed q u) (list_in (Some v.name) under) (list_of q later) (head_among q later u a))
-
-        heads_among : (q : Option Ilk) (w : Chains) (u : Occurrence) → Among u (heads_in w) → Among (placed q u) (list_in q w)
-        heads_among q no_chain u a = absurd a
-        heads_among q (chain v m) u a = either {P = Among u (heads_of v)} {Q = Among u (heads_in m)} {R = Among (placed q u) (list_of q v ++ list_in q m)} (λ k. among_left (placed q u) (list_of q v) (list_in q m) (head_among q v u k))
-            (λ k. among_right (placed q u) (list_of q v) (list_in q m) (heads_among q m u k)) (among_append u (heads_of v) (heads_in m) a)
 
     -- twins of the parent, what is below them, and all behind
     rest_off : list_all test rest ≡ true
@@ -524,8 +523,9 @@ root_at types new kinds (suc at) (chain twins more) h l =
       heads = ap (λ q. heads_of twins ++ q) y.heads ∙ sym (append_assoc (heads_of twins) (heads_in y.before) (new ∷ heads_in y.rest));
     }
 
-pub first_roots_are_inserted : SchemasAreKept → ((schema : Schema) → IsTotalOrder (root_cmp schema)) → FirstRootsAreInserted
-first_roots_are_inserted kept total schema trees at new kinds typed_roots l one rise =
+root_inserted : SchemasAreKept → ((schema : Schema) → IsTotalOrder (root_cmp schema)) → (schema : Schema) (new : Occurrence) (old now : Chains) → RootAt schema.types new old now → new.code ≡ 1 → roots_rise schema (heads_in now) ≡ true
+    → rows_of (list_in None now) ≡ inserted schema (rows_of (list_in None old)) (placed None new).row
+root_inserted kept total schema new old now x one rise =
     let row : Row = (placed None new).row in
     let single : inserted schema [] row ≡ row ∷ [] = inserted_between.front schema row [] (record { none = refl; deeper = refl; next = refl }) in
     ap rows_of x.is ∙ append_rows (list_in None x.before) (placed None new ∷ list_in None x.rest)
@@ -534,9 +534,6 @@ first_roots_are_inserted kept total schema trees at new kinds typed_roots l one 
     (top_trees kept schema x.rest x.typed_rest) before refl behind
     ∙ ap (λ q. rows_of (list_in None x.before) ++ (q ++ rows_of (list_in None x.rest))) single)
   where
-    x : RootAt schema.types new trees (with_chain at (before_twins new kinds) trees)
-    x = root_at schema.types new kinds at trees typed_roots l
-
     none : (r : Row) (m : List Row) → [] ≡ r ∷ m → ⊥
     none r m e = cc
 
@@ -545,7 +542,7 @@ first_roots_are_inserted kept total schema trees at new kinds typed_roots l one 
 
     before : AllBefore schema (placed None new).row (rows_of (list_in None x.before))
     before r m low =
-        let p = among_placed r (list_in None x.before) m in
+        let p = among_row r (list_in None x.before) m in
         let same : row_level schema.types (p.0).row ≡ row_level schema.types r = ap (row_level schema.types) (p.2) in
         let h = head_in kept schema x.before x.typed_before (p.0) (p.1) (omega (arith, same, low)) in
         subst (λ (q : Row). stands_before schema (placed None new).row q ≡ true) (ap (λ (z : Placed). z.row) h.is ∙ p.2)
@@ -565,3 +562,126 @@ first_roots_are_inserted kept total schema trees at new kinds typed_roots l one 
                 subst (λ (q : Placed). not (stands_before schema (placed None new).row q.row) ≡ true) h.is
                 (root_behind schema (total schema) h.root new (sym (root_codes schema.types x.rest x.typed_rest h.root h.among)) one (among_passes (λ b. is_lt (root_cmp schema (key_of schema new) (key_of schema b))) h.root (heads_in x.rest) h.among
                 (pairs_at (λ a b. is_lt (root_cmp schema (key_of schema a) (key_of schema b))) (heads_in x.before) (heads_in x.rest) new order).behind))
+
+pub first_roots_are_inserted : SchemasAreKept → ((schema : Schema) → IsTotalOrder (root_cmp schema)) → FirstRootsAreInserted
+first_roots_are_inserted kept total schema trees at new kinds typed_roots l one rise =
+    root_inserted kept total schema new trees (with_segment (Root at) new kinds trees) (root_at schema.types new kinds at trees typed_roots l) one rise
+
+-- ---- a root behind a root
+
+-- a chain up to a root, and from there on
+record ChainAt (types : List SegType) (new : Occurrence) (old now : Twins) : Type 0 where
+  pub before : Twins
+  pub later : Twins
+  pub typed_before : are_of types 1 before ≡ true
+  pub typed_later : are_of types 1 later ≡ true
+  pub was : list_of None old ≡ list_of None before ++ list_of None later
+  pub is : list_of None now ≡ list_of None before ++ placed None new ∷ list_of None later
+  pub heads : heads_of now ≡ heads_of before ++ new ∷ heads_of later
+
+-- below roots the home of a root isn't met
+abbrev NotBelow : List SegType → (ℕ → Option Cell) → ℕ → Type 0
+NotBelow types cells prior = (name : Option Ilk) (below : Chains) → are_chains_of types (child_codes types 1) below ≡ true → HangIn cells below → times_in prior below ≤ 1 → times_in prior below ≡ 0
+
+not_below : SchemasAreKept → (schema : Schema) (cells : ℕ → Option Cell) (prior : ℕ) (cell : Cell) → cells prior ≡ Some cell → cell.code ≡ 1 → NotBelow schema.types cells prior
+not_below kept schema cells prior cell stands one name below h hang few = by (times_in prior below) refl
+  where
+    code_of : (a b : Cell) → Some a ≡ Some b → a.code ≡ b.code
+    code_of a b e = ap (λ (o : Option Cell). option_map_or (λ (c : Cell). c.code) o 0) e
+
+    by : (n : ℕ) → times_in prior below ≡ n → times_in prior below ≡ 0
+    by zero e = e
+    by (suc n) e =
+        let x = split_in schema.types (deepens kept schema) cells prior (λ s below next. segment s below next) (level_of schema.types 1 + 1) (child_codes schema.types 1) (children_level schema.types (deepens kept schema) 1) name below h hang (omega (arith, e, few)) in
+        let code = code_of (cell_of x.s x.below x.next) cell (sym (ap cells (sym x.at) ∙ x.hangs.1) ∙ stands) ∙ one in
+        let level = ap (level_of schema.types) code in
+        let deep = x.deep in
+        absurd (omega (arith, level, deep))
+
+chain_behind : (schema : Schema) (cells : ℕ → Option Cell) (new : Occurrence) (kinds prior : ℕ) → NotBelow schema.types cells prior → (twins : Twins) → are_of schema.types 1 twins ≡ true → Hangs cells twins → times prior twins ≡ 1
+    → ChainAt schema.types new twins (at_home prior (λ s below next. segment s below (before_twins new kinds next)) twins)
+chain_behind schema cells new kinds prior low no_segment h hang one = absurd (omega (arith, one))
+chain_behind schema cells new kinds prior low (segment s below next) h hang one =
+    let t = typed schema.types 1 s below next h in
+    by t (s.home == prior) refl (low None below t.under (hang.2) (omega (arith, one))) (λ q. chain_behind schema cells new kinds prior low next t.later (hang.3) q)
+  where
+    types : List SegType
+    types = schema.types
+
+    under_it : List Placed
+    under_it = list_in (Some s.name) below
+
+    edit : Occurrence → Chains → Twins → Twins
+    edit t under later = segment t under (before_twins new kinds later)
+
+    by : Typed types 1 s below next → (b : Bool) → (s.home == prior) ≡ b → times_in prior below ≡ 0 → (times prior next ≡ 1 → ChainAt types new next (at_home prior (λ s below next. segment s below (before_twins new kinds next)) next))
+        → ChainAt types new (segment s below next)
+        (if b then segment s below (before_twins new kinds next)
+        else segment s (in_home prior (λ s below next. segment s below (before_twins new kinds next)) below) (at_home prior (λ s below next. segment s below (before_twins new kinds next)) next))
+    by t true e none rest = record {
+      before = segment s below no_segment;
+      later = next;
+      typed_before = from_typed types 1 s below no_segment t.code_is t.under refl;
+      typed_later = t.later;
+      was = ap (λ l. placed None s ∷ (l ++ list_of None next)) (sym (append-nil under_it));
+      is = ap (λ l. placed None s ∷ (under_it ++ placed None new ∷ (l ++ list_of None next))) (bare_list (Some new.name) kinds) ∙ ap (λ l. placed None s ∷ (l ++ placed None new ∷ list_of None next)) (sym (append-nil under_it));
+      heads = refl;
+    }
+    by t false e none rest =
+        let off = here_off prior s e in
+        let y = rest (omega (arith, one, none, off)) in
+        let same = absent_in prior (λ s below next. segment s below (before_twins new kinds next)) below none in
+        record {
+          before = segment s below y.before;
+          later = y.later;
+          typed_before = from_typed types 1 s below y.before t.code_is t.under y.typed_before;
+          typed_later = y.typed_later;
+          was = ap (λ l. placed None s ∷ (under_it ++ l)) y.was ∙ ap (λ l. placed None s ∷ l) (sym (append_assoc under_it (list_of None y.before) (list_of None y.later)));
+          is = ap (λ (c : Chains). placed None s ∷ (list_in (Some s.name) c ++ list_of None (at_home prior (λ s below next. segment s below (before_twins new kinds next)) next))) same
+              ∙ ap (λ l. placed None s ∷ (under_it ++ l)) y.is ∙ ap (λ l. placed None s ∷ l) (sym (append_assoc under_it (list_of None y.before) (placed None new ∷ list_of None y.later)));
+          heads = ap (λ l. s ∷ l) y.heads;
+        }
+
+trees_behind : (schema : Schema) (cells : ℕ → Option Cell) (new : Occurrence) (kinds prior : ℕ) → NotBelow schema.types cells prior → (trees : Chains) → are_roots schema.types trees ≡ true → HangIn cells trees → times_in prior trees ≡ 1
+    → RootAt schema.types new trees (in_home prior (λ s below next. segment s below (before_twins new kinds next)) trees)
+trees_behind schema cells new kinds prior low no_chain h hang one = absurd (omega (arith, one))
+trees_behind schema cells new kinds prior low (chain twins more) h hang one =
+    let p = and_parts (are_of schema.types 1 twins) (are_roots schema.types more) h in
+    by p.0 p.1 (times prior twins) refl (λ q. chain_behind schema cells new kinds prior low twins p.0 (hang.0) q) (λ q. trees_behind schema cells new kinds prior low more p.1 (hang.1) q)
+  where
+    by : are_of schema.types 1 twins ≡ true → are_roots schema.types more ≡ true → (n : ℕ) → times prior twins ≡ n → (times prior twins ≡ 1 → ChainAt schema.types new twins (at_home prior (λ s below next. segment s below (before_twins new kinds next)) twins))
+        → (times_in prior more ≡ 1 → RootAt schema.types new more (in_home prior (λ s below next. segment s below (before_twins new kinds next)) more)) → RootAt schema.types new (chain twins more) (in_home prior (λ s below next. segment s below (before_twins new kinds next)) (chain twins more))
+    by a b zero e first rest =
+        let y = rest (omega (arith, one, e)) in
+        let same = absent prior (λ s below next. segment s below (before_twins new kinds next)) twins e in
+        record {
+          before = chain twins y.before;
+          rest = y.rest;
+          typed_before = and_from (are_of schema.types 1 twins) (are_roots schema.types y.before) a y.typed_before;
+          typed_rest = y.typed_rest;
+          was = ap (λ q. list_of None twins ++ q) y.was ∙ sym (append_assoc (list_of None twins) (list_in None y.before) (list_in None y.rest));
+          is = ap (λ (u : Twins). list_of None u ++ list_in None (in_home prior (λ s below next. segment s below (before_twins new kinds next)) more)) same ∙ ap (λ q. list_of None twins ++ q) y.is
+              ∙ sym (append_assoc (list_of None twins) (list_in None y.before) (placed None new ∷ list_in None y.rest));
+          heads = ap (λ (u : Twins). heads_of u ++ heads_in (in_home prior (λ s below next. segment s below (before_twins new kinds next)) more)) same ∙ ap (λ q. heads_of twins ++ q) y.heads
+              ∙ sym (append_assoc (heads_of twins) (heads_in y.before) (new ∷ heads_in y.rest));
+        }
+    by a b (suc n) e first rest =
+        let x = first (omega (arith, one, e)) in
+        let same = absent_in prior (λ s below next. segment s below (before_twins new kinds next)) more (omega (arith, one, e)) in
+        record {
+          before = chain x.before no_chain;
+          rest = chain x.later more;
+          typed_before = and_from (are_of schema.types 1 x.before) true x.typed_before refl;
+          typed_rest = and_from (are_of schema.types 1 x.later) (are_roots schema.types more) x.typed_later b;
+          was = ap (λ q. q ++ list_in None more) x.was ∙ append_assoc (list_of None x.before) (list_of None x.later) (list_in None more) ∙ ap (λ q. q ++ (list_of None x.later ++ list_in None more)) (sym (append-nil (list_of None x.before)));
+          is = ap (λ (c : Chains). list_of None (at_home prior (λ s below next. segment s below (before_twins new kinds next)) twins) ++ list_in None c) same ∙ ap (λ q. q ++ list_in None more) x.is
+              ∙ append_assoc (list_of None x.before) (placed None new ∷ list_of None x.later) (list_in None more) ∙ ap (λ q. q ++ placed None new ∷ (list_of None x.later ++ list_in None more)) (sym (append-nil (list_of None x.before)));
+          heads = ap (λ (c : Chains). heads_of (at_home prior (λ s below next. segment s below (before_twins new kinds next)) twins) ++ heads_in c) same ∙ ap (λ q. q ++ heads_in more) x.heads
+              ∙ append_assoc (heads_of x.before) (new ∷ heads_of x.later) (heads_in more) ∙ ap (λ q. q ++ new ∷ (heads_of x.later ++ heads_in more)) (sym (append-nil (heads_of x.before)));
+        }
+
+pub later_roots_are_inserted : SchemasAreKept → ((schema : Schema) → IsTotalOrder (root_cmp schema)) → LaterRootsAreInserted
+later_roots_are_inserted kept total schema cells firsts trees prior cell new kinds r met stands code one rise =
+    let few = r.once prior in
+    root_inserted kept total schema new trees (with_segment (Behind prior) new kinds trees)
+    (trees_behind schema cells new kinds prior (not_below kept schema cells prior cell stands code) trees r.typed r.from.hang (omega (arith, few, met))) one rise

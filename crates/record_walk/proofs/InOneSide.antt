@@ -34,7 +34,7 @@ use Rattle.record_walk.proofs.OnLists.{deepens}
 use Rattle.record_walk.proofs.ByName.{append_rows, inserted_between}
 use Rattle.record_walk.proofs.Rising.{either, Under, Top, Inner, under_in, root_codes}
 use Rattle.record_walk.proofs.Joined.{joined, beside_heads, joined_list, joined_typed, sides_typed, rows_pass, below_roots}
-use Rattle.record_walk.proofs.RecordOf.{listed_append}
+use Rattle.record_walk.proofs.RecordOf.{among_row, listed_append}
 
 -- ---- spans and contents of a part
 
@@ -433,11 +433,6 @@ sides_pass test (side ∷ sides) h =
     let p = and_parts (list_all test (heads_in side.trees)) (list_all (λ (s : PlacedSide). list_all test (heads_in s.trees)) sides) h in
     ap (list_all test) (beside_heads side.trees (joined sides)) ∙ all_append test (heads_in side.trees) (heads_in (joined sides)) p.0 (sides_pass test sides p.1)
 
-pub among_placed : (row : Row) (list : List Placed) → Among row (rows_of list) → (p : Placed) × Among p list × (p.row ≡ row)
-among_placed row [] a = absurd a
-among_placed row (p ∷ list) (inl e) = (p, inl refl, e)
-among_placed row (p ∷ list) (inr a) = let q = among_placed row list a in (q.0, inr (q.1), q.2)
-
 root_one : SchemasAreKept → ((schema : Schema) → IsTotalOrder (root_cmp schema)) → (schema : Schema) (front behind : List PlacedSide) (side changed : PlacedSide) (new : Occurrence) → IsAmong schema front side behind → new.code ≡ 1
     → StandsInSide schema front behind new → rows_in changed ≡ inserted schema (rows_in side) (placed None new).row → rows_in_all (front ++ changed ∷ behind) ≡ inserted schema (rows_in_all (front ++ side ∷ behind)) (placed None new).row
 root_one kept total schema front behind side changed new a one stands is =
@@ -473,7 +468,7 @@ root_one kept total schema front behind side changed new a one stands is =
 
     before : AllBefore schema row (rows_in_all front)
     before r m low =
-        let p = among_placed r (listed front) m in
+        let p = among_row r (listed front) m in
         let in_trees : Among (p.0) (list_in None (joined front)) = subst (λ (l : List Placed). Among (p.0) l) (sym (joined_list front)) (p.1) in
         let same : row_level schema.types (p.0).row ≡ row_level schema.types r = ap (row_level schema.types) (p.2) in
         let h = head_in kept schema (joined front) t.front_typed (p.0) in_trees (omega (arith, same, low)) in

@@ -8,11 +8,11 @@ use Rattle.hal_base.specs.declared.place.Ilk.{Ilk}
 use Rattle.hal_schema.specs.Row.{same_name}
 use Rattle.hal_schema.proofs.RowNames.{name_from}
 use Rattle.segment_blocks.specs.declared.tile.Cell.{Cell}
+use Rattle.forest_laws.proofs.Lists.{all_append}
 use Rattle.record_walk.specs.Tree.{Occurrence, Twins, no_segment, segment, Chains, no_chain, chain, cell_of, Hangs, HangIn}
 use Rattle.record_walk.specs.Listing.{Placed, placed, list_of, list_in}
 use Rattle.record_walk.specs.Side.{alone, seen}
 use Rattle.record_walk.specs.InRecords.{is_cell_of, SidesListTheirCells}
-use Rattle.record_walk.proofs.Levels.{all_append}
 use Rattle.record_walk.proofs.OnLists.{count, counted_in}
 use Rattle.record_walk.proofs.RecordOf.{bytes_itself, differ_in}
 

@@ -135,7 +135,7 @@ all_turned : (P Q : List Row × Row → Type 0) → ((p : List Row × Row) → P
 all_turned P Q f [] h = tt
 all_turned P Q f (x ∷ xs) h = (f x (h.0), all_turned P Q f xs (h.1))
 
-among_row : (row : Row) (list : List Placed) → Among row (rows_of list) → (p : Placed) × Among p list × (p.row ≡ row)
+pub among_row : (row : Row) (list : List Placed) → Among row (rows_of list) → (p : Placed) × Among p list × (p.row ≡ row)
 among_row row [] a = absurd a
 among_row row (p ∷ list) (inl e) = (p, inl refl, e)
 among_row row (p ∷ list) (inr a) = let q = among_row row list a in (q.0, inr (q.1), q.2)

@@ -4,7 +4,7 @@ use Rattle.std.specs.List.{list_all, list_any}
 use Rattle.std.specs.Option.{option_map}
 use Rattle.hal_schema.specs.declared.row.Row.{Row}
 use Rattle.hal_schema.specs.declared.schema.IndexDef.{IndexDef}
-use Rattle.hal_schema.specs.Entry.{entries_of}
+use Rattle.hal_schema.specs.Entry.{Entry, entries_of}
 use Rattle.hal_schema.specs.Forest.{is_forest}
 use Rattle.hal_schema.specs.Insertion.{inserted}
 use Rattle.hal_schema.specs.Row.{row_key}
@@ -19,6 +19,7 @@ use Rattle.record_walk.specs.Roots.{with_row, without_row}
 use Rattle.record_walk.specs.Volume.{PlacedSide, listed, precedes, AreSidesInOrder}
 use Rattle.record_walk.specs.InRecords.{root_above, hangs_by}
 use Rattle.record_walk.specs.OneSide.{rows_in_all}
+use Rattle.record_walk.specs.Firsts.{stays_behind}
 use Rattle.record_walk.specs.Examples.{phidam, phdam, example_types, cells_in, example_cells, cell_at_home, name_at, at, row, two_rows, one_row, two_trees, one_tree, r1, r7, c_at}
 
 -- cells with one that came or was changed, and without some
@@ -120,6 +121,10 @@ the_row p = p.row
 abbrev pub key_above : ℕ → Option (List ℕ)
 key_above home = option_map (row_key example_types) (root_above home_of the_row None (list_in None two_trees) home)
 
+-- an entry of the first C under a root key
+abbrev pub entry_under : List ℕ → Entry
+entry_under key = record { key = codes "g1"; target = name_at 32; root = key }
+
 pub record SidesMakeForests : Type 0 where
   pub in_order : AreSidesInOrder phidam (output ∷ input ∷ [])
   pub forest : is_forest phidam (rows_of (listed (output ∷ input ∷ []))) ≡ true
@@ -134,9 +139,18 @@ pub record SidesMakeForests : Type 0 where
   pub shorter_list : rows_in_all (shorter ∷ input ∷ []) ≡ without_span example_types (rows_in_all (output ∷ input ∷ [])) (name_at 32)
   pub root_list : rows_of (list_in None (with_segment (Root 1) (at 176 1 (codes "500ee")) 2 (with_row 1 two_trees)))
       ≡ inserted phidam (rows_of (list_in None two_trees)) (placed None (at 176 1 (codes "500ee"))).row
+  pub behind_list : rows_of (list_in None (with_segment (Behind 16) (at 176 1 (codes "300ff")) 2 one_tree))
+      ≡ inserted phdam (rows_of (list_in None one_tree)) (placed None (at 176 1 (codes "300ff"))).row
+  -- a first child before a C of higher key, which stays behind it; a C of lower key wouldn't
+  pub before_list : rows_of (list_in None (with_segment (Below 16 0) (at 128 2 (codes "00qq")) 1 two_trees))
+      ≡ inserted phidam (rows_of (list_in None two_trees)) (placed (Some (name_at 16)) (at 128 2 (codes "00qq"))).row
+  pub stays : stays_behind phidam (at 128 2 (codes "00qq")) (at 32 2 (codes "01xx")) ≡ true
+  pub goes : stays_behind phidam (at 128 2 (codes "02qq")) (at 32 2 (codes "01xx")) ≡ false
   -- the entries of the two G lead to the first C, which hangs in the record of the key 001
   pub entries : entries_of example_types by_g (rows_of (listed (output ∷ input ∷ [])))
       ≡ record { key = codes "g1"; target = name_at 32; root = codes "001" } ∷ record { key = codes "g2"; target = name_at 32; root = codes "001" } ∷ []
   pub hang : list_all (λ entry. list_all (hangs_by example_types home_of the_row (list_in None output.trees) entry) (list_in None output.trees))
       (entries_of example_types by_g (rows_of (listed (output ∷ input ∷ [])))) ≡ true
+  pub own_key : list_all (hangs_by example_types home_of the_row (list_in None two_trees) (entry_under (codes "001"))) (list_in None two_trees) ≡ true
+  pub other_key : list_all (hangs_by example_types home_of the_row (list_in None two_trees) (entry_under (codes "700"))) (list_in None two_trees) ≡ false
   pub above : map key_above (16 ∷ 48 ∷ 112 ∷ 96 ∷ 128 ∷ []) ≡ Some (codes "001") ∷ Some (codes "001") ∷ Some (codes "001") ∷ Some (codes "700") ∷ None ∷ []

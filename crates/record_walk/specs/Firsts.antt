@@ -5,9 +5,9 @@ use Rattle.hal_schema.specs.declared.schema.Schema.{Schema}
 use Rattle.hal_schema.specs.Forest.{all_pairs, names_apart, twin_cmp, twins_rise}
 use Rattle.hal_schema.specs.Insertion.{goes_before, is_first, inserted}
 use Rattle.segment_blocks.specs.declared.tile.Cell.{Cell}
-use Rattle.record_walk.specs.Tree.{Occurrence, Chains, firsts_of, child_codes, are_roots}
+use Rattle.record_walk.specs.Tree.{Occurrence, Chains, firsts_of, times_in, child_codes, are_roots}
 use Rattle.record_walk.specs.Listing.{placed, list_in, rows_of}
-use Rattle.record_walk.specs.Pointers.{Pointer, Below, Root, with_segment}
+use Rattle.record_walk.specs.Pointers.{Pointer, Behind, Below, Root, with_segment}
 use Rattle.record_walk.specs.Side.{heads_in, roots_rise}
 use Rattle.record_walk.specs.Siblings.{row_of}
 use Rattle.record_walk.specs.Changes.{leads_to}
@@ -39,3 +39,10 @@ FirstRootsAreInserted = (schema : Schema) (trees : Chains) (at : ℕ) (new : Occ
     → at < length (firsts_of trees)
     → new.code ≡ 1 → roots_rise schema (heads_in (with_segment (Root at) new kinds trees)) ≡ true
     → rows_of (list_in None (with_segment (Root at) new kinds trees)) ≡ inserted schema (rows_of (list_in None trees)) (placed None new).row
+
+-- in PHDAM as a root behind another, where all roots rise with it
+abbrev pub LaterRootsAreInserted : Type 0
+LaterRootsAreInserted = (schema : Schema) (cells : ℕ → Option Cell) (firsts : List ℕ) (trees : Chains) (prior : ℕ) (cell : Cell) (new : Occurrence) (kinds : ℕ)
+    → AreRecords schema cells firsts trees → 0 < times_in prior trees → cells prior ≡ Some cell → cell.code ≡ 1 → new.code ≡ 1
+    → roots_rise schema (heads_in (with_segment (Behind prior) new kinds trees)) ≡ true
+    → rows_of (list_in None (with_segment (Behind prior) new kinds trees)) ≡ inserted schema (rows_of (list_in None trees)) (placed None new).row

@@ -1,7 +1,9 @@
 ghost use Rattle.record_walk.specs.ChangeExamples.{ChangesMakeSides, SidesMakeForests};
 ghost use Rattle.record_walk.specs.Examples.{AreSides, BreakAPart};
 
-use crate::firsts::{first_children_are_inserted, first_roots_are_inserted};
+use crate::firsts::{
+    first_children_are_inserted, first_roots_are_inserted, later_roots_are_inserted,
+};
 use crate::in_records::entries_hang_in_records;
 use crate::one_side::changes_of_one_side;
 use crate::side_changes::changed_sides;
@@ -32,6 +34,7 @@ pub fn sides_make_forests()
     changes_of_one_side();
     first_children_are_inserted();
     first_roots_are_inserted();
+    later_roots_are_inserted();
     entries_hang_in_records();
     sides_are_forests();
 }

@@ -31,7 +31,7 @@ mod volume;
 mod walk;
 
 pub use examples::{broken_sides, changes_make_sides, example_sides, sides_make_forests};
-pub use firsts::{first_children_are_inserted, first_roots_are_inserted};
+pub use firsts::{first_children_are_inserted, first_roots_are_inserted, later_roots_are_inserted};
 pub use in_records::{entries_hang_in_records, sides_list_their_cells};
 pub use listed::{
     cuts_are_spans, new_segments_are_listed, new_twins_stand_behind_spans,

@@ -30,6 +30,7 @@ fn the_laws_can_be_called(_rt: HostRuntime) {
     changed_sides();
     first_children_are_inserted();
     first_roots_are_inserted();
+    later_roots_are_inserted();
     changes_of_one_side();
     sides_have_one_proof();
     sides_are_forests();
