@@ -7,7 +7,7 @@ use Rattle.segment_blocks.specs.declared.tile.Cell.{Cell}
 use Rattle.hal_schema.specs.declared.schema.Schema.{Schema}
 use Rattle.record_walk.specs.Tree.{Occurrence, Chains, no_chain, chain, here, times_in, homes_in}
 use Rattle.record_walk.specs.Pointers.{Pointer, Behind, Below, Root, with_segment, without_segment, with_content_at}
-use Rattle.record_walk.specs.Side.{RootRow, seen, heads_in, key_of, row_key_of, belongs, roots_rise, IsSideOf}
+use Rattle.record_walk.specs.Side.{RootRow, seen, heads_in, key_of, row_key_of, belongs, roots_rise, IsSideOf, IsWalked}
 use Rattle.record_walk.specs.Changes.{stands_in, set_in_cell, set_content}
 use Rattle.record_walk.specs.Spans.{IsIn}
 use Rattle.record_walk.specs.Roots.{with_row, without_row}
@@ -242,6 +242,9 @@ fits_behind schema place cells rows prior cell new trees own there key rise chai
     off : (k : ℕ) → Behind prior ≡ Root k → ⊥
     off k e = true≢false (ap is_behind e)
 
+side_of : (schema : Schema) (place : ℕ) (cells : ℕ → Option Cell) (rows : List RootRow) (trees : Chains) → IsWalked schema place cells rows trees → list_all (λ row. nat_lt 0 row.home) rows ≡ true → IsSideOf schema place cells rows trees
+side_of schema place cells rows trees w used = record { walked = w; rows_are_used = used }
+
 no_root : ◌≡◌ {A = ℕ} 2 1 → ⊥
 no_root e = absurd (omega (arith, e))
 
@@ -257,44 +260,44 @@ homes rows = map (λ (r : RootRow). r.home) rows
 pub make_sides : ChangedSides → ChangesMakeSides
 unfolding here
 make_sides changed =
-    let w = changed.walked phidam 0 phidam_cells two_rows two_trees sides.phidam_side in
-    let v = changed.walked phdam 0 phdam_cells one_row one_tree sides.phdam_side in
+    let w = sides.phidam_side.walked in
+    let v = sides.phdam_side.walked in
     record {
       first_child =
           let now : ℕ → Option Cell = put (cell_at_home 96 1 0 (128 ∷ 0 ∷ []) (codes "700bb")) (put (cell_at_home 128 2 0 (0 ∷ []) (codes "05zz")) phidam_cells) in
-          changed.side phidam 0 now two_rows (with_segment (Below 96 0) (at 128 2 (codes "05zz")) 1 two_trees)
+          side_of phidam 0 now two_rows (with_segment (Below 96 0) (at 128 2 (codes "05zz")) 1 two_trees)
           (changed.inserts phidam 0 phidam_cells now two_rows two_trees (Below 96 0) (at 128 2 (codes "05zz")) w
           (in_below 96 0 ((cell_at_home 96 1 0 (0 ∷ 0 ∷ []) (codes "700bb")).1) (seen false phidam_cells) (homes two_rows) two_trees (some (times_in 96 two_trees) refl) refl (some 2 refl)) (some 128 refl) refl refl (λ e. absurd (no_root e)) refl
           (sets_two (Below 96 0) 128 (cell_at_home 96 1 0 (128 ∷ 0 ∷ []) (codes "700bb")) (cell_at_home 128 2 0 (0 ∷ []) (codes "05zz")) phidam_cells refl refl refl)) refl;
       behind_twin =
           let now : ℕ → Option Cell = put (cell_at_home 80 2 160 (0 ∷ []) (codes "01yy")) (put (cell_at_home 160 2 0 (0 ∷ []) (codes "09ww")) phidam_cells) in
-          changed.side phidam 0 now two_rows (with_segment (Behind 80) (at 160 2 (codes "09ww")) 1 two_trees)
+          side_of phidam 0 now two_rows (with_segment (Behind 80) (at 160 2 (codes "09ww")) 1 two_trees)
           (changed.inserts phidam 0 phidam_cells now two_rows two_trees (Behind 80) (at 160 2 (codes "09ww")) w (in_behind 80 (seen false phidam_cells) (homes two_rows) two_trees (some (times_in 80 two_trees) refl)) (some 160 refl) refl refl
           (λ e. absurd (no_root e)) refl (sets_two (Behind 80) 160 (cell_at_home 80 2 160 (0 ∷ []) (codes "01yy")) (cell_at_home 160 2 0 (0 ∷ []) (codes "09ww")) phidam_cells refl refl refl)) refl;
       new_root =
           let now : ℕ → Option Cell = put (cell_at_home 176 1 0 (0 ∷ 0 ∷ []) (codes "500ee")) phidam_cells in
           let rows : List RootRow = row (codes "001") 16 ∷ row (codes "500") 0 ∷ row (codes "700") 96 ∷ [] in
-          changed.side phidam 0 now (row (codes "001") 16 ∷ row (codes "500") 176 ∷ row (codes "700") 96 ∷ []) (with_segment (Root 1) (at 176 1 (codes "500ee")) 2 (with_row 1 two_trees))
+          side_of phidam 0 now (row (codes "001") 16 ∷ row (codes "500") 176 ∷ row (codes "700") 96 ∷ []) (with_segment (Root 1) (at 176 1 (codes "500ee")) 2 (with_row 1 two_trees))
           (changed.inserts phidam 0 phidam_cells now rows (with_row 1 two_trees) (Root 1) (at 176 1 (codes "500ee")) (changed.row_comes phidam 0 phidam_cells two_rows two_trees 1 (codes "500") w (omega arith))
           (in_root 1 (seen false phidam_cells) (homes rows) (with_row 1 two_trees) (ltb-true 1 3 refl)) (some 176 refl) refl refl
           (λ e. fits_head phidam 0 phidam_cells rows 1 (row (codes "500") 0) (at 176 1 (codes "500ee")) (with_segment (Root 1) (at 176 1 (codes "500ee")) 2 (with_row 1 two_trees)) refl refl refl refl (λ _. refl)) refl
           (sets_row 1 176 (cell_at_home 176 1 0 (0 ∷ 0 ∷ []) (codes "500ee")) phidam_cells refl)) refl;
       behind_root =
           let now : ℕ → Option Cell = put (cell_at_home 16 1 176 (32 ∷ 112 ∷ []) (codes "001aa")) (put (cell_at_home 176 1 96 (0 ∷ 0 ∷ []) (codes "300ff")) phdam_cells) in
-          changed.side phdam 0 now one_row (with_segment (Behind 16) (at 176 1 (codes "300ff")) 2 one_tree)
+          side_of phdam 0 now one_row (with_segment (Behind 16) (at 176 1 (codes "300ff")) 2 one_tree)
           (changed.inserts phdam 0 phdam_cells now one_row one_tree (Behind 16) (at 176 1 (codes "300ff")) v (in_behind 16 (seen true phdam_cells) (homes one_row) one_tree (some (times_in 16 one_tree) refl)) (some 176 refl) refl refl
           (λ e. fits_behind phdam 0 phdam_cells one_row 16 (cell_16 96) (at 176 1 (codes "300ff")) (with_segment (Behind 16) (at 176 1 (codes "300ff")) 2 one_tree) refl refl refl refl refl) refl
           (sets_two (Behind 16) 176 (cell_at_home 16 1 176 (32 ∷ 112 ∷ []) (codes "001aa")) (cell_at_home 176 1 96 (0 ∷ 0 ∷ []) (codes "300ff")) phdam_cells refl refl refl)) refl;
       before_roots =
           let now : ℕ → Option Cell = put (cell_at_home 176 1 16 (0 ∷ 0 ∷ []) (codes "  1hh")) phdam_cells in
-          changed.side phdam 0 now (anchor_row 1 176 ∷ []) (with_segment (Root 0) (at 176 1 (codes "  1hh")) 2 one_tree)
+          side_of phdam 0 now (anchor_row 1 176 ∷ []) (with_segment (Root 0) (at 176 1 (codes "  1hh")) 2 one_tree)
           (changed.inserts phdam 0 phdam_cells now one_row one_tree (Root 0) (at 176 1 (codes "  1hh")) v (in_root 0 (seen true phdam_cells) (homes one_row) one_tree (some 1 refl)) (some 176 refl) refl refl
           (λ e. fits_head phdam 0 phdam_cells one_row 0 (anchor_row 1 16) (at 176 1 (codes "  1hh")) (with_segment (Root 0) (at 176 1 (codes "  1hh")) 2 one_tree) refl refl refl refl (λ f. absurd (true≢false f))) refl
           (sets_row 0 176 (cell_at_home 176 1 16 (0 ∷ 0 ∷ []) (codes "  1hh")) phdam_cells refl)) refl;
       new_anchor =
           let now : ℕ → Option Cell = put (cell_at_home 176 1 0 (0 ∷ 0 ∷ []) (codes "000kk")) phdam_cells in
           let rows : List RootRow = anchor_row 0 0 ∷ one_row in
-          changed.side phdam 0 now (anchor_row 0 176 ∷ one_row) (with_segment (Root 0) (at 176 1 (codes "000kk")) 2 (with_row 0 one_tree))
+          side_of phdam 0 now (anchor_row 0 176 ∷ one_row) (with_segment (Root 0) (at 176 1 (codes "000kk")) 2 (with_row 0 one_tree))
           (changed.inserts phdam 0 phdam_cells now rows (with_row 0 one_tree) (Root 0) (at 176 1 (codes "000kk")) (changed.row_comes phdam 0 phdam_cells one_row one_tree 0 (0 ∷ 0 ∷ 0 ∷ 0 ∷ []) v (omega arith))
           (in_root 0 (seen true phdam_cells) (homes rows) (with_row 0 one_tree) (some 2 refl)) (some 176 refl) refl refl
           (λ e. fits_head phdam 0 phdam_cells rows 0 (anchor_row 0 0) (at 176 1 (codes "000kk")) (with_segment (Root 0) (at 176 1 (codes "000kk")) 2 (with_row 0 one_tree)) refl refl refl refl (λ f. absurd (true≢false f))) refl
@@ -305,7 +308,7 @@ make_sides changed =
           let cell : ℕ × Cell = cell_at_home 16 1 144 (80 ∷ 112 ∷ []) (codes "001aa") in
           let result : Chains = without_segment (Below 16 0) two_trees in
           let l : Leaves hs two_trees result = record { left = refl; others = refl } in
-          changed.side phidam 0 (put cell left) two_rows result
+          side_of phidam 0 (put cell left) two_rows result
           (changed.cuts phidam 0 phidam_cells (put cell left) two_rows two_trees (Below 16 0) ((cell_at_home 32 2 80 (64 ∷ []) (codes "01xx")).1) w
           (in_below 16 0 ((cell_at_home 16 1 0 (32 ∷ 112 ∷ []) (codes "001aa")).1) (seen false phidam_cells) (homes two_rows) two_trees (some (times_in 16 two_trees) refl) refl (some 2 refl)) (some 32 refl) refl
           (cut_cell (Below 16 0) 80 cell hs phidam_cells left (gone_out hs phidam_cells) two_trees result l refl refl)
@@ -315,7 +318,7 @@ make_sides changed =
           let left : ℕ → Option Cell = gone hs phidam_cells in
           let result : Chains = without_segment (Root 1) two_trees in
           let l : Leaves hs two_trees result = record { left = refl; others = refl } in
-          changed.side phidam 0 left (row (codes "001") 16 ∷ []) (without_row 1 result)
+          side_of phidam 0 left (row (codes "001") 16 ∷ []) (without_row 1 result)
           (changed.row_goes phidam 0 left (row (codes "001") 16 ∷ row (codes "700") 0 ∷ []) result 1 (row (codes "700") 0)
           (changed.cuts phidam 0 phidam_cells left two_rows two_trees (Root 1) ((cell_at_home 96 1 0 (0 ∷ 0 ∷ []) (codes "700bb")).1) w (in_root 1 (seen false phidam_cells) (homes two_rows) two_trees (ltb-true 1 2 refl)) (some 96 refl) refl
           (cut_row 1 0 hs phidam_cells left (gone_out hs phidam_cells) two_trees result l) (λ home c m none is. left_copied hs phidam_cells left (gone_out hs phidam_cells) two_trees result l home c m none is)) refl refl) refl;
@@ -324,12 +327,12 @@ make_sides changed =
           let left : ℕ → Option Cell = marked hs phdam_cells in
           let result : Chains = without_segment (Root 0) one_tree in
           let l : Leaves hs one_tree result = record { left = refl; others = refl } in
-          changed.side phdam 0 left (anchor_row 1 96 ∷ []) result
+          side_of phdam 0 left (anchor_row 1 96 ∷ []) result
           (changed.cuts phdam 0 phdam_cells left one_row one_tree (Root 0) (cell_16 96) v (in_root 0 (seen true phdam_cells) (homes one_row) one_tree (some 1 refl)) (some 16 refl) refl
           (cut_row 0 96 hs phdam_cells left (marked_out hs phdam_cells) one_tree result l) (λ home c m none is. left_copied hs phdam_cells left (marked_out hs phdam_cells) one_tree result l home c m none is)) refl;
       replaced =
           let cell : ℕ × Cell = cell_at_home 16 1 144 (32 ∷ 112 ∷ []) (codes "001zz") in
-          changed.side phidam 0 (put cell phidam_cells) two_rows (with_content_at 16 (codes "001zz") two_trees)
+          side_of phidam 0 (put cell phidam_cells) two_rows (with_content_at 16 (codes "001zz") two_trees)
           (changed.replaces phidam 0 phidam_cells (put cell phidam_cells) two_rows two_trees 16 (codes "001zz") w refl (λ other off. put_off cell phidam_cells other (λ e. off (sym e)))
           (λ c is one. subst (λ (q : Cell). key_of phidam (segment_in 16 (set_content (codes "001zz") q)) ≡ key_of phidam (segment_in 16 q)) (some_is (cell_16 144) c is) refl)) refl;
     }
@@ -337,12 +340,12 @@ make_sides changed =
 pub moved : ChangedSides → IsSideOf phidam 0 (marked (16 ∷ 32 ∷ 64 ∷ 48 ∷ 80 ∷ 112 ∷ []) phidam_cells) (row (codes "700") 96 ∷ []) (without_row 0 (without_segment (Root 0) two_trees))
 unfolding here
 moved changed =
-    let w = changed.walked phidam 0 phidam_cells two_rows two_trees sides.phidam_side in
+    let w = sides.phidam_side.walked in
     let hs : List ℕ = 16 ∷ 32 ∷ 64 ∷ 48 ∷ 80 ∷ 112 ∷ [] in
     let left : ℕ → Option Cell = marked hs phidam_cells in
     let result : Chains = without_segment (Root 0) two_trees in
     let l : Leaves hs two_trees result = record { left = refl; others = refl } in
-    changed.side phidam 0 left (row (codes "700") 96 ∷ []) (without_row 0 result)
+    side_of phidam 0 left (row (codes "700") 96 ∷ []) (without_row 0 result)
     (changed.row_goes phidam 0 left (row (codes "001") 0 ∷ row (codes "700") 96 ∷ []) result 0 (row (codes "001") 0)
     (changed.cuts phidam 0 phidam_cells left two_rows two_trees (Root 0) (cell_16 0) w (in_root 0 (seen false phidam_cells) (homes two_rows) two_trees (some 2 refl)) (some 16 refl) refl
     (cut_row 0 0 hs phidam_cells left (marked_out hs phidam_cells) two_trees result l) (λ home c m none is. left_copied hs phidam_cells left (marked_out hs phidam_cells) two_trees result l home c m none is)) refl refl) refl
@@ -354,7 +357,7 @@ make_forests changed one_side first_children first_roots later_roots hang forest
     let order : AreSidesInOrder phidam (output ∷ input ∷ []) = record { each = all; twins = refl; order = refl } in
     let cells : ℕ → Option Cell = seen false input.cells in
     let first = first_children phidam cells (96 ∷ []) (chain r7 no_chain) 96 0 ((cell_at_home 96 1 0 (0 ∷ 0 ∷ []) (codes "700bb")).1) (at 128 2 (codes "05zz")) 1
-    (records_of phidam 0 input.cells input.rows (chain r7 no_chain) (changed.walked phidam 0 input.cells input.rows (chain r7 no_chain) (moved changed)))
+    (records_of phidam 0 input.cells input.rows (chain r7 no_chain) (moved changed).walked)
     (in_below 96 0 ((cell_at_home 96 1 0 (0 ∷ 0 ∷ []) (codes "700bb")).1) cells (96 ∷ []) (chain r7 no_chain) (some (times_in 96 (chain r7 no_chain)) refl) refl (some 2 refl)) refl refl refl refl (λ cell some_there is. absurd (none some_there)) in
     record {
       in_order = order;
@@ -369,13 +372,13 @@ make_forests changed one_side first_children first_roots later_roots hang forest
       entries = refl;
       hang = hang phidam [] (input ∷ []) output by_g all refl;
       before_list =
-          first_children phidam (seen false phidam_cells) (homes two_rows) two_trees 16 0 (cell_16 0) (at 128 2 (codes "00qq")) 1 (records_of phidam 0 phidam_cells two_rows two_trees (changed.walked phidam 0 phidam_cells two_rows two_trees sides.phidam_side))
+          first_children phidam (seen false phidam_cells) (homes two_rows) two_trees 16 0 (cell_16 0) (at 128 2 (codes "00qq")) 1 (records_of phidam 0 phidam_cells two_rows two_trees (sides.phidam_side.walked))
           (in_below 16 0 (cell_16 0) (seen false phidam_cells) (homes two_rows) two_trees (some (times_in 16 two_trees) refl) refl (some 2 refl)) refl refl refl refl
           (λ cell _ is. subst (λ (q : Cell). stays_behind phidam (at 128 2 (codes "00qq")) (segment_in 32 q) ≡ true) (some_is ((cell_at_home 32 2 80 (64 ∷ []) (codes "01xx")).1) cell is) refl);
       stays = refl;
       goes = refl;
       behind_list = later_roots phdam (seen true phdam_cells) (16 ∷ []) one_tree 16 (cell_16 96) (at 176 1 (codes "300ff")) 2
-          (records_of phdam 0 phdam_cells one_row one_tree (changed.walked phdam 0 phdam_cells one_row one_tree sides.phdam_side)) (some (times_in 16 one_tree) refl) refl refl refl refl;
+          (records_of phdam 0 phdam_cells one_row one_tree (sides.phdam_side.walked)) (some (times_in 16 one_tree) refl) refl refl refl refl;
       own_key = refl;
       other_key = refl;
       above = refl;

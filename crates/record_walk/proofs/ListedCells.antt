@@ -75,7 +75,7 @@ counted_any home (p ∷ list) h = by (p.home == home) h (counted_any home list)
 
 pub sides_list_their_cells : SidesListTheirCells
 sides_list_their_cells schema place cells rows trees side = record {
-  stand = all_stand_in schema.phdam cells None trees side.hangs;
-  met = λ home cell is kept. let m = side.all_met home cell is kept in let c = counted_in home None trees in counted_any home (list_in None trees) (omega (arith, m, c));
-  once = differ_in trees side.once;
+  stand = all_stand_in schema.phdam cells None trees side.walked.hangs;
+  met = λ home cell is kept. let m = side.walked.all_met home cell is kept in let c = counted_in home None trees in counted_any home (list_in None trees) (omega (arith, m, c));
+  once = differ_in trees side.walked.once;
 }

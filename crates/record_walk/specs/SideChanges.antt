@@ -1,27 +1,16 @@
 -- A changed side is a side again.
-use Rattle.std.specs.Prelude.{◌≡◌, ◌≢◌, ℕ, zero, suc, ◌<◌, ◌≤◌, nat_lt, true, false, List, [], ◌∷◌, length, map, insert, slice_get, Option, None, Some}
-use Rattle.std.specs.List.{list_all, remove}
+use Rattle.std.specs.Prelude.{◌≡◌, ◌≢◌, ℕ, zero, suc, ◌<◌, ◌≤◌, true, false, List, [], ◌∷◌, length, map, insert, slice_get, Option, None, Some}
+use Rattle.std.specs.List.{remove}
 use Rattle.std.specs.Option.{option_map}
 use Rattle.hal_schema.specs.declared.schema.Schema.{Schema}
 use Rattle.segment_blocks.specs.declared.tile.Cell.{Cell}
-use Rattle.record_walk.specs.Tree.{Occurrence, Chains, firsts_of, HangIn, times_in, child_codes, are_roots}
+use Rattle.record_walk.specs.Tree.{Occurrence, Chains, times_in, child_codes}
 use Rattle.record_walk.specs.Pointers.{Pointer, Behind, Below, Root, with_segment, without_segment, with_content_at}
-use Rattle.record_walk.specs.Side.{RootRow, seen, heads_in, key_of, row_key_of, are_keyed, belongs, roots_rise, IsSideOf}
+use Rattle.record_walk.specs.Side.{RootRow, seen, heads_in, key_of, row_key_of, belongs, roots_rise, IsWalked}
 use Rattle.record_walk.specs.Changes.{stands_in, leads_to, set_in_cell, new_cell, set_content}
 use Rattle.record_walk.specs.Spans.{IsIn}
 use Rattle.record_walk.specs.Records.{code_behind}
 use Rattle.record_walk.specs.Roots.{with_row, without_row}
-
--- A side in which a row of the root set may lead nowhere. A change goes through it where a root's row comes before the root, or goes after it.
-pub record IsWalked (schema : Schema) (place : ℕ) (cells : ℕ → Option Cell) (rows : List RootRow) (trees : Chains) : Type 0 where
-  pub rows_lead : firsts_of trees ≡ map (λ row. row.home) rows
-  pub rows_are_keyed : are_keyed schema rows trees ≡ true
-  pub hangs : HangIn (seen schema.phdam cells) trees
-  pub typed : are_roots schema.types trees ≡ true
-  pub once : (home : ℕ) → times_in home trees ≤ 1
-  pub all_met : (home : ℕ) (cell : Cell) → cells home ≡ Some cell → cell.copied ≡ false → 0 < times_in home trees
-  pub roots_belong : list_all (belongs schema place) (heads_in trees) ≡ true
-  pub roots_are_rising : roots_rise schema (heads_in trees) ≡ true
 
 -- the pointer as its cell or its row has it
 abbrev pub leads_in : Schema → Pointer → (ℕ → Option Cell) → List RootRow → ℕ
@@ -96,8 +85,3 @@ pub record ChangedSides : Type 0 where
   pub row_goes : (schema : Schema) (place : ℕ) (cells : ℕ → Option Cell) (rows : List RootRow) (trees : Chains) (at : ℕ) (row : RootRow)
       → IsWalked schema place cells rows trees
       → slice_get rows at ≡ Some row → row.home ≡ 0 → IsWalked schema place cells (remove rows at) (without_row at trees)
-  -- where each row leads somewhere it is a side, and a side is so
-  pub side : (schema : Schema) (place : ℕ) (cells : ℕ → Option Cell) (rows : List RootRow) (trees : Chains) → IsWalked schema place cells rows trees
-      → list_all (λ row. nat_lt 0 row.home) rows ≡ true → IsSideOf schema place cells rows trees
-  pub walked : (schema : Schema) (place : ℕ) (cells : ℕ → Option Cell) (rows : List RootRow) (trees : Chains)
-      → IsSideOf schema place cells rows trees → IsWalked schema place cells rows trees
