@@ -9,7 +9,7 @@ use Rattle.hal_schema.specs.declared.schema.Schema.{Schema}
 use Rattle.hal_schema.specs.Lawful.{all_differ}
 use Rattle.record_walk.specs.Tree.{Occurrence, Twins, no_segment, segment, Chains, no_chain, chain, firsts_of, cell_of, HangIn, here, times, times_in, homes_of, homes_in}
 use Rattle.record_walk.specs.Side.{RootRow, seen, IsSideOf}
-use Rattle.record_walk.specs.Examples.{phidam, phdam, cells_in, example_cells, cell_at_home, at, r7, row, two_trees, one_tree, single, misplaced, shared, lost, two_roots, name_at, AreSides, IsNoSide, BreakAPart}
+use Rattle.record_walk.specs.Examples.{phidam, phdam, cells_in, example_cells, cell_at_home, at, r7, row, two_trees, one_tree, single, misplaced, shared, lost, two_roots, two_anchors, name_at, AreSides, IsNoSide, BreakAPart}
 use Rattle.record_walk.proofs.Homes.{Stands}
 use Rattle.record_walk.specs.OneProof.{unique_in}
 
@@ -207,6 +207,9 @@ break_a_part = record {
   unused_row = no_side phidam (single 16 (codes "001aa")) (row (codes "000") 0 ∷ row (codes "001") 16 ∷ []) (chain no_segment (root (codes "001aa"))) (tt, ((some 16 refl, refl, (tt, (tt, tt)), tt), tt)) refl (λ s. false≢true s.rows_are_used);
   other_key = no_side phidam (single 16 (codes "001aa")) (row (codes "002") 16 ∷ []) (root (codes "001aa")) ((some 16 refl, refl, (tt, (tt, tt)), tt), tt) refl (λ s. false≢true s.walked.rows_are_keyed);
   other_anchor = no_side phdam (single 16 (codes "001aa")) (row (0 ∷ 0 ∷ 0 ∷ 0 ∷ []) 16 ∷ []) (root (codes "001aa")) ((some 16 refl, refl, (tt, (tt, tt)), tt), tt) refl (λ s. false≢true s.walked.rows_are_keyed);
+  other_chain = no_side phdam two_anchors (row (0 ∷ 0 ∷ 0 ∷ 0 ∷ []) 96 ∷ [])
+      (chain (segment (at 96 1 (codes "000bb")) (chain no_segment (chain no_segment no_chain)) (segment (at 16 1 (codes "001aa")) (chain no_segment (chain no_segment no_chain)) no_segment)) no_chain)
+      ((some 96 refl, refl, (tt, (tt, tt)), (some 16 refl, refl, (tt, (tt, tt)), tt)), tt) refl (λ s. false≢true s.walked.rows_are_keyed);
   copied_is_met = λ s. let there = led (seen false (cells_in (example_cells 0))) 144 [] (s.0) (s.1.walked.hangs) (s.1.walked.rows_lead) (some 144 refl) in copied_stands (record { copied = true; code = 1; name = name_at 144; twin = 0; children = 32 ∷ 112 ∷ []; content = codes "000cc" }) there.cell refl there.is there.kept;
   wrong_type = no_side phidam misplaced (row (codes "001") 16 ∷ []) (chain (segment (at 16 1 (codes "001aa")) (chain no_segment (chain (segment (at 32 3 (codes "g1")) no_chain no_segment) no_chain)) no_segment) no_chain)
       ((some 16 refl, refl, (tt, ((some 32 refl, refl, tt, tt), tt)), tt), tt) refl (λ s. false≢true s.walked.typed);

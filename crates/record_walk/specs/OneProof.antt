@@ -84,7 +84,9 @@ mutual
 
 pub IsSide-prop : (schema : Schema) (place : ℕ) (cells : ℕ → Option Cell) (rows : List RootRow) → IsProp (IsSide schema place cells rows)
 IsSide-prop schema place cells rows a b =
-    let trees : a.0 ≡ b.0 = unique_in (seen schema.phdam cells) (a.0) (b.0) (a.1.walked.hangs) (b.1.walked.hangs) (a.1.walked.rows_lead ∙ sym (b.1.walked.rows_lead)) in
+    let v = a.1.walked in
+    let w = b.1.walked in
+    let trees : a.0 ≡ b.0 = unique_in (seen schema.phdam cells) (a.0) (b.0) v.hangs w.hangs (v.rows_lead ∙ sym w.rows_lead) in
     subst (λ (u : Chains). (y : IsSideOf schema place cells rows u) → ◌≡◌ {A = IsSide schema place cells rows} (a.0, a.1) (u, y)) trees
     (λ y. ap (λ (z : IsSideOf schema place cells rows (a.0)). (a.0, z)) (side_of schema place cells rows (a.0) (a.1) y)) (b.1)
 

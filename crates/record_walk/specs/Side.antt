@@ -55,7 +55,7 @@ belongs schema place root = option_map_or (λ p. p == place) (partition_of schem
 abbrev pub roots_rise : Schema → List Occurrence → Bool
 roots_rise schema roots = all_pairs (λ a b. is_lt (root_cmp schema (key_of schema a) (key_of schema b))) roots
 
--- These trees hang from the rows of the root set of the partition at a place. A row may lead nowhere, as where a root's row comes before the root, or goes after it.
+-- These trees hang from the rows of the root set of the partition at a place. A row may lead nowhere: a root's row comes before the root, and goes after it.
 pub record IsWalked (schema : Schema) (place : ℕ) (cells : ℕ → Option Cell) (rows : List RootRow) (trees : Chains) : Type 0 where
   -- rule 4: the rows lead to roots, by home and by key; in PHDAM (rule 7) each root stands in the chain of its own anchor
   pub rows_lead : firsts_of trees ≡ map (λ row. row.home) rows
@@ -69,8 +69,8 @@ pub record IsWalked (schema : Schema) (place : ℕ) (cells : ℕ → Option Cell
   pub roots_belong : list_all (belongs schema place) (heads_in trees) ≡ true
   pub roots_are_rising : roots_rise schema (heads_in trees) ≡ true
 
--- The side of the partition at a place: no row leads nowhere. Of the rules of a sound volume it is 4; 5 but for what it says of partitions that are idle; and 7 in its
--- part on roots.
+-- The side of the partition at a place: no row leads nowhere. Of the rules of a sound volume it is 4; 5 but for what it says of partitions that are
+-- idle; and 7 in its part on roots.
 pub record IsSideOf (schema : Schema) (place : ℕ) (cells : ℕ → Option Cell) (rows : List RootRow) (trees : Chains) : Type 0 where
   pub walked : IsWalked schema place cells rows trees
   pub rows_are_used : list_all (λ row. nat_lt 0 row.home) rows ≡ true
