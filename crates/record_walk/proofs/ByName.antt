@@ -15,10 +15,11 @@ use Rattle.hal_schema.specs.Forest.{all_pairs, names_apart}
 use Rattle.hal_schema.specs.Insertion.{stands_before, through_last, insertion_place, inserted}
 use Rattle.hal_schema.specs.Span.{is_deeper, span_of, without_span, replaced, with_content}
 use Rattle.hal_schema.proofs.RowNames.{name_is, name_itself}
+use Rattle.forest_laws.proofs.Lists.{drop_front}
 use Rattle.record_walk.specs.Listing.{Placed, placed, list_in, rows_of}
 use Rattle.record_walk.specs.Spans.{lies_below, span_at, without_span_at, replaced_at, starts_upto}
 use Rattle.record_walk.specs.Named.{IsByName, HomesAreNames, begins_upto, StandsBetween, InsertedBetween, NewTwinsAreInserted}
-use Rattle.record_walk.proofs.OnLists.{is_at, alone_at}
+use Rattle.record_walk.proofs.OnLists.{is_at, alone_at, take_front}
 
 abbrev is_named : Ilk → Placed → Bool
 is_named name p = same_name p.row.name name
@@ -157,14 +158,6 @@ suffix_at q (y ∷ front) x rest off all =
     let long = length-append front (x ∷ rest) in
     let apart : suffix_len q list ≡ length list → ⊥ = λ e. absurd (omega (arith, e, rec, long)) in
     suffix_cons q y list ∙ ap (λ (b : Bool). cond {A = ℕ} b (length list + cond (q y) 1 0) (suffix_len q list)) (ne_eqb (suffix_len q list) (length list) apart) ∙ rec
-
-take_front : {X : Type 0} (xs ys : List X) → take (length xs) (xs ++ ys) ≡ xs
-take_front [] ys = refl
-take_front (x ∷ xs) ys = ap (λ l. x ∷ l) (take_front xs ys)
-
-drop_front : {X : Type 0} (xs ys : List X) → drop (length xs) (xs ++ ys) ≡ ys
-drop_front [] ys = refl
-drop_front (x ∷ xs) ys = drop_front xs ys
 
 -- the rows that are deeper than a new one, up to one that isn't
 run_is : (types : List SegType) (n : ℕ) (below back : List Row) → list_all (λ r. nat_lt n (row_level types r)) below ≡ true → begins_upto types n back ≡ true → prefix_len (λ r. nat_lt n (row_level types r)) (below ++ back) ≡ length below

@@ -16,12 +16,12 @@ use Rattle.segment_blocks.specs.declared.tile.Cell.{Cell}
 use Rattle.forest_laws.proofs.Lists.{all_append, all_parts, all_weaker, pairs_parts, pairs_join}
 use Rattle.record_walk.specs.Tree.{Occurrence, Twins, no_segment, segment, Chains, no_chain, chain, firsts_of, cell_of, Hangs, HangIn, here, times, times_in, are_of, are_roots}
 use Rattle.record_walk.specs.Pointers.{Pointer, Behind, Below, Root, with_chain, at_home, in_home, before_twins, behind_first, with_segment, without_segment, with_content_at}
-use Rattle.record_walk.specs.Side.{RootRow, alone, seen, heads_of, heads_in, key_of, row_key_of, are_keyed, belongs, roots_rise}
+use Rattle.record_walk.specs.Side.{RootRow, alone, seen, heads_of, heads_in, key_of, row_key_of, are_keyed, belongs, roots_rise, IsWalked}
 use Rattle.record_walk.specs.Changes.{stands_in, set_in_cell, set_in_rows, new_cell, set_content, IsSet}
 use Rattle.record_walk.specs.Spans.{AreRecords, IsIn}
 use Rattle.record_walk.specs.Records.{code_behind}
 use Rattle.record_walk.specs.Roots.{has_twins, with_row, without_row}
-use Rattle.record_walk.specs.SideChanges.{IsWalked, leads_in, IsInSide, set_home, set_in_root_rows, segment_in, FitsAsRoot, SetsPointer, kinds_of, ChangedSides}
+use Rattle.record_walk.specs.SideChanges.{leads_in, IsInSide, set_home, set_in_root_rows, segment_in, FitsAsRoot, SetsPointer, kinds_of, ChangedSides}
 use Rattle.record_walk.proofs.Homes.{here_itself, at_or_off, met_stands_in}
 use Rattle.record_walk.proofs.Levels.{typed}
 use Rattle.record_walk.proofs.OnLists.{deepens, chain_of}
@@ -33,16 +33,16 @@ use Rattle.record_walk.proofs.ListedCells.{seen_of}
 abbrev homes : List RootRow → List ℕ
 homes rows = map (λ (row : RootRow). row.home) rows
 
-records_of : (schema : Schema) (place : ℕ) (cells : ℕ → Option Cell) (rows : List RootRow) (trees : Chains) → IsWalked schema place cells rows trees → AreRecords schema (seen schema.phdam cells) (homes rows) trees
+pub records_of : (schema : Schema) (place : ℕ) (cells : ℕ → Option Cell) (rows : List RootRow) (trees : Chains) → IsWalked schema place cells rows trees → AreRecords schema (seen schema.phdam cells) (homes rows) trees
 records_of schema place cells rows trees w = record { from = record { hang = w.hangs; first = w.rows_lead }; typed = w.typed; once = w.once }
 
 none_some : (cell : Cell) → None ≡ Some cell → ⊥
 none_some cell e = cc
 
-some_is : (a b : Cell) → Some a ≡ Some b → a ≡ b
+pub some_is : (a b : Cell) → Some a ≡ Some b → a ≡ b
 some_is a b e = cc
 
-some_home : (a b : ℕ) → Some a ≡ Some b → a ≡ b
+pub some_home : (a b : ℕ) → Some a ≡ Some b → a ≡ b
 some_home a b e = cc
 
 -- ---- rows of the root set
@@ -661,25 +661,4 @@ changed_sides kept = record {
   replaces = replaced_walked kept;
   row_comes = row_came;
   row_goes = row_went;
-  side = λ schema place cells rows trees w used. record {
-    rows_lead = w.rows_lead;
-    rows_are_used = used;
-    rows_are_keyed = w.rows_are_keyed;
-    hangs = w.hangs;
-    typed = w.typed;
-    once = w.once;
-    all_met = w.all_met;
-    roots_belong = w.roots_belong;
-    roots_are_rising = w.roots_are_rising;
-  };
-  walked = λ schema place cells rows trees s. record {
-    rows_lead = s.rows_lead;
-    rows_are_keyed = s.rows_are_keyed;
-    hangs = s.hangs;
-    typed = s.typed;
-    once = s.once;
-    all_met = s.all_met;
-    roots_belong = s.roots_belong;
-    roots_are_rising = s.roots_are_rising;
-  };
 }

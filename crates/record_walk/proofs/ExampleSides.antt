@@ -9,13 +9,13 @@ use Rattle.hal_schema.specs.declared.schema.Schema.{Schema}
 use Rattle.hal_schema.specs.Lawful.{all_differ}
 use Rattle.record_walk.specs.Tree.{Occurrence, Twins, no_segment, segment, Chains, no_chain, chain, firsts_of, cell_of, HangIn, here, times, times_in, homes_of, homes_in}
 use Rattle.record_walk.specs.Side.{RootRow, seen, IsSideOf}
-use Rattle.record_walk.specs.Examples.{phidam, phdam, cells_in, example_cells, cell_at_home, at, r7, row, two_trees, one_tree, single, misplaced, shared, lost, two_roots, name_at, AreSides, IsNoSide, BreakAPart}
+use Rattle.record_walk.specs.Examples.{phidam, phdam, cells_in, example_cells, cell_at_home, at, r7, row, two_trees, one_tree, single, misplaced, shared, lost, two_roots, two_anchors, name_at, AreSides, IsNoSide, BreakAPart}
 use Rattle.record_walk.proofs.Homes.{Stands}
 use Rattle.record_walk.specs.OneProof.{unique_in}
 
 -- ---- homes that differ are met once
 
-met : ℕ → List ℕ → ℕ
+unfoldable pub met : ℕ → List ℕ → ℕ
 met home [] = 0
 met home (x ∷ xs) = cond (x == home) 1 0 + met home xs
 
@@ -40,7 +40,7 @@ mutual
       let d = met_append home (homes_in below) (homes_of next) in
       omega (arith, a, b, c, d)
 
-  times_met_in : (home : ℕ) (chains : Chains) → times_in home chains ≡ met home (homes_in chains)
+  pub times_met_in : (home : ℕ) (chains : Chains) → times_in home chains ≡ met home (homes_in chains)
   times_met_in home no_chain = refl
   times_met_in home (chain twins more) =
       let a = times_met home twins in
@@ -103,7 +103,7 @@ all_met trees (p ∷ list) home cell h is kept =
         subst (λ (n : ℕ). 0 < times_in n trees) (eqb-true p.0 home e) (ltb-true 0 (times_in p.0 trees) lt)
     by false e is one rest = rest is
 
-some : (n : ℕ) → nat_lt 0 n ≡ true → 0 < n
+pub some : (n : ℕ) → nat_lt 0 n ≡ true → 0 < n
 some n h = ltb-true 0 n h
 
 phidam_hangs : HangIn (seen false (cells_in (example_cells 144))) two_trees
@@ -138,26 +138,30 @@ pub sides : AreSides
 unfolding here
 sides = record {
   phidam_side = record {
-    rows_lead = refl;
+    walked = record {
+      rows_lead = refl;
+      rows_are_keyed = refl;
+      hangs = phidam_hangs;
+      typed = refl;
+      once = λ home. once_met home two_trees refl;
+      all_met = λ home cell is kept. all_met two_trees (example_cells 144) home cell refl is kept;
+      roots_belong = refl;
+      roots_are_rising = refl;
+    };
     rows_are_used = refl;
-    rows_are_keyed = refl;
-    hangs = phidam_hangs;
-    typed = refl;
-    once = λ home. once_met home two_trees refl;
-    all_met = λ home cell is kept. all_met two_trees (example_cells 144) home cell refl is kept;
-    roots_belong = refl;
-    roots_are_rising = refl;
   };
   phdam_side = record {
-    rows_lead = refl;
+    walked = record {
+      rows_lead = refl;
+      rows_are_keyed = refl;
+      hangs = phdam_hangs;
+      typed = refl;
+      once = λ home. once_met home one_tree refl;
+      all_met = λ home cell is kept. all_met one_tree (example_cells 96) home cell refl is kept;
+      roots_belong = refl;
+      roots_are_rising = refl;
+    };
     rows_are_used = refl;
-    rows_are_keyed = refl;
-    hangs = phdam_hangs;
-    typed = refl;
-    once = λ home. once_met home one_tree refl;
-    all_met = λ home cell is kept. all_met one_tree (example_cells 96) home cell refl is kept;
-    roots_belong = refl;
-    roots_are_rising = refl;
   };
   walked = refl;
   names = refl;
@@ -171,7 +175,7 @@ sides = record {
 no_side : (schema : Schema) (cells : List (ℕ × Cell)) (rows : List RootRow) (trees : Chains) → HangIn (seen schema.phdam (cells_in cells)) trees → firsts_of trees ≡ map (λ row. row.home) rows
     → (IsSideOf schema 0 (cells_in cells) rows trees → ⊥) → IsNoSide schema cells rows
 no_side schema cells rows trees hang first bad s =
-    bad (subst (λ (c : Chains). IsSideOf schema 0 (cells_in cells) rows c) (unique_in (seen schema.phdam (cells_in cells)) (s.0) trees (s.1.hangs) hang (s.1.rows_lead ∙ sym first)) (s.1))
+    bad (subst (λ (c : Chains). IsSideOf schema 0 (cells_in cells) rows c) (unique_in (seen schema.phdam (cells_in cells)) (s.0) trees (s.1.walked.hangs) hang (s.1.walked.rows_lead ∙ sym first)) (s.1))
 
 -- a cell that isn't copied stands where the first row leads
 led : (cells : ℕ → Option Cell) (home : ℕ) (rest : List ℕ) (trees : Chains) → HangIn cells trees → firsts_of trees ≡ home ∷ rest → 0 < home → Stands cells home
@@ -199,18 +203,21 @@ root content = chain (segment (at 16 1 content) (chain no_segment (chain no_segm
 pub break_a_part : BreakAPart
 unfolding here
 break_a_part = record {
-  leads_astray = λ s. let there = led (seen false (cells_in (example_cells 0))) 20 (96 ∷ []) (s.0) (s.1.hangs) (s.1.rows_lead) (some 20 refl) in nothing_stands there.cell there.is;
+  leads_astray = λ s. let there = led (seen false (cells_in (example_cells 0))) 20 (96 ∷ []) (s.0) (s.1.walked.hangs) (s.1.walked.rows_lead) (some 20 refl) in nothing_stands there.cell there.is;
   unused_row = no_side phidam (single 16 (codes "001aa")) (row (codes "000") 0 ∷ row (codes "001") 16 ∷ []) (chain no_segment (root (codes "001aa"))) (tt, ((some 16 refl, refl, (tt, (tt, tt)), tt), tt)) refl (λ s. false≢true s.rows_are_used);
-  other_key = no_side phidam (single 16 (codes "001aa")) (row (codes "002") 16 ∷ []) (root (codes "001aa")) ((some 16 refl, refl, (tt, (tt, tt)), tt), tt) refl (λ s. false≢true s.rows_are_keyed);
-  other_anchor = no_side phdam (single 16 (codes "001aa")) (row (0 ∷ 0 ∷ 0 ∷ 0 ∷ []) 16 ∷ []) (root (codes "001aa")) ((some 16 refl, refl, (tt, (tt, tt)), tt), tt) refl (λ s. false≢true s.rows_are_keyed);
-  copied_is_met = λ s. let there = led (seen false (cells_in (example_cells 0))) 144 [] (s.0) (s.1.hangs) (s.1.rows_lead) (some 144 refl) in copied_stands (record { copied = true; code = 1; name = name_at 144; twin = 0; children = 32 ∷ 112 ∷ []; content = codes "000cc" }) there.cell refl there.is there.kept;
+  other_key = no_side phidam (single 16 (codes "001aa")) (row (codes "002") 16 ∷ []) (root (codes "001aa")) ((some 16 refl, refl, (tt, (tt, tt)), tt), tt) refl (λ s. false≢true s.walked.rows_are_keyed);
+  other_anchor = no_side phdam (single 16 (codes "001aa")) (row (0 ∷ 0 ∷ 0 ∷ 0 ∷ []) 16 ∷ []) (root (codes "001aa")) ((some 16 refl, refl, (tt, (tt, tt)), tt), tt) refl (λ s. false≢true s.walked.rows_are_keyed);
+  other_chain = no_side phdam two_anchors (row (0 ∷ 0 ∷ 0 ∷ 0 ∷ []) 96 ∷ [])
+      (chain (segment (at 96 1 (codes "000bb")) (chain no_segment (chain no_segment no_chain)) (segment (at 16 1 (codes "001aa")) (chain no_segment (chain no_segment no_chain)) no_segment)) no_chain)
+      ((some 96 refl, refl, (tt, (tt, tt)), (some 16 refl, refl, (tt, (tt, tt)), tt)), tt) refl (λ s. false≢true s.walked.rows_are_keyed);
+  copied_is_met = λ s. let there = led (seen false (cells_in (example_cells 0))) 144 [] (s.0) (s.1.walked.hangs) (s.1.walked.rows_lead) (some 144 refl) in copied_stands (record { copied = true; code = 1; name = name_at 144; twin = 0; children = 32 ∷ 112 ∷ []; content = codes "000cc" }) there.cell refl there.is there.kept;
   wrong_type = no_side phidam misplaced (row (codes "001") 16 ∷ []) (chain (segment (at 16 1 (codes "001aa")) (chain no_segment (chain (segment (at 32 3 (codes "g1")) no_chain no_segment) no_chain)) no_segment) no_chain)
-      ((some 16 refl, refl, (tt, ((some 32 refl, refl, tt, tt), tt)), tt), tt) refl (λ s. false≢true s.typed);
+      ((some 16 refl, refl, (tt, ((some 32 refl, refl, tt, tt), tt)), tt), tt) refl (λ s. false≢true s.walked.typed);
   met_twice = no_side phidam shared (row (codes "001") 16 ∷ [])
       (chain (segment (at 16 1 (codes "001aa")) (chain (segment (at 32 2 (codes "01xx")) (chain g1 no_chain) (segment (at 80 2 (codes "01yy")) (chain g1 no_chain) no_segment)) (chain no_segment no_chain)) no_segment) no_chain)
       ((some 16 refl, refl, ((some 32 refl, refl, ((some 48 refl, refl, tt, tt), tt), (some 80 refl, refl, ((some 48 refl, refl, tt, tt), tt), tt)), (tt, tt)), tt), tt) refl
-      (λ s. let two : 2 ≤ 1 = s.once 48 in omega (arith, two));
-  not_met = no_side phidam lost (row (codes "001") 16 ∷ []) (root (codes "001aa")) ((some 16 refl, refl, (tt, (tt, tt)), tt), tt) refl (λ s. let none : 0 < 0 = s.all_met 112 ((cell_at_home 112 4 0 [] (codes "u")).1) refl refl in omega (arith, none));
-  other_partition = no_side phidam (single 16 (codes "~~~aa")) (row (codes "~~~") 16 ∷ []) (root (codes "~~~aa")) ((some 16 refl, refl, (tt, (tt, tt)), tt), tt) refl (λ s. false≢true s.roots_belong);
-  falling = no_side phidam two_roots (row (codes "700") 96 ∷ row (codes "001") 16 ∷ []) (chain r7 (root (codes "001aa"))) ((some 96 refl, refl, (tt, (tt, tt)), tt), ((some 16 refl, refl, (tt, (tt, tt)), tt), tt)) refl (λ s. false≢true s.roots_are_rising);
+      (λ s. let two : 2 ≤ 1 = s.walked.once 48 in omega (arith, two));
+  not_met = no_side phidam lost (row (codes "001") 16 ∷ []) (root (codes "001aa")) ((some 16 refl, refl, (tt, (tt, tt)), tt), tt) refl (λ s. let none : 0 < 0 = s.walked.all_met 112 ((cell_at_home 112 4 0 [] (codes "u")).1) refl refl in omega (arith, none));
+  other_partition = no_side phidam (single 16 (codes "~~~aa")) (row (codes "~~~") 16 ∷ []) (root (codes "~~~aa")) ((some 16 refl, refl, (tt, (tt, tt)), tt), tt) refl (λ s. false≢true s.walked.roots_belong);
+  falling = no_side phidam two_roots (row (codes "700") 96 ∷ row (codes "001") 16 ∷ []) (chain r7 (root (codes "001aa"))) ((some 96 refl, refl, (tt, (tt, tt)), tt), ((some 16 refl, refl, (tt, (tt, tt)), tt), tt)) refl (λ s. false≢true s.walked.roots_are_rising);
 }

@@ -34,7 +34,7 @@ use Rattle.record_walk.proofs.OnLists.{deepens}
 use Rattle.record_walk.proofs.ByName.{append_rows, inserted_between}
 use Rattle.record_walk.proofs.Rising.{either, Under, Top, Inner, under_in, root_codes}
 use Rattle.record_walk.proofs.Joined.{joined, beside_heads, joined_list, joined_typed, sides_typed, rows_pass, below_roots}
-use Rattle.record_walk.proofs.RecordOf.{listed_append}
+use Rattle.record_walk.proofs.RecordOf.{among_row, listed_append}
 
 -- ---- spans and contents of a part
 
@@ -67,7 +67,7 @@ abbrev named : Ilk → Row → Bool
 named name row = same_name row.name name
 
 -- what begins with a root, if with anything
-abbrev TopFirst : List SegType → List Row → Type 0
+abbrev pub TopFirst : List SegType → List Row → Type 0
 TopFirst types rows = (row : Row) (more : List Row) → rows ≡ row ∷ more → row_level types row ≤ 1
 
 cut_within : (types : List SegType) (part back : List Row) (name : Ilk) → list_all (λ row. nat_le 1 (row_level types row)) part ≡ true → TopFirst types back → list_any (named name) part ≡ true → without_span types (part ++ back) name ≡ without_span types part name ++ back
@@ -145,14 +145,14 @@ within_part schema front part back new low top x none =
 
 -- ---- a root
 
-abbrev none_before : Schema → Row → List Row → Type 0
+abbrev pub none_before : Schema → Row → List Row → Type 0
 none_before schema new rows = list_all (λ row. not (stands_before schema new row)) rows ≡ true
 
 -- each row of these that is a root stands before the new one
-abbrev AllBefore : Schema → Row → List Row → Type 0
+abbrev pub AllBefore : Schema → Row → List Row → Type 0
 AllBefore schema new rows = (row : Row) → Among row rows → row_level schema.types row ≤ 1 → stands_before schema new row ≡ true
 
-at_front : (schema : Schema) (front part back : List Row) (new : Row) → row_level schema.types new ≡ 1 → TopFirst schema.types front → TopFirst schema.types part → TopFirst schema.types back → AllBefore schema new front → none_before schema new part
+pub at_front : (schema : Schema) (front part back : List Row) (new : Row) → row_level schema.types new ≡ 1 → TopFirst schema.types front → TopFirst schema.types part → TopFirst schema.types back → AllBefore schema new front → none_before schema new part
     → none_before schema new back → inserted schema (front ++ (part ++ back)) new ≡ front ++ (inserted schema part new ++ back)
 at_front schema front part back new one first top last before off none =
     let types = schema.types in
@@ -206,7 +206,7 @@ top_of types (p ∷ list) h = λ row more e. let l = leb-true (row_level types p
         head_or d [] = d
         head_or d (y ∷ l) = y
 
-top_trees : SchemasAreKept → (schema : Schema) (trees : Chains) → are_roots schema.types trees ≡ true → TopFirst schema.types (rows_of (list_in None trees))
+pub top_trees : SchemasAreKept → (schema : Schema) (trees : Chains) → are_roots schema.types trees ≡ true → TopFirst schema.types (rows_of (list_in None trees))
 top_trees kept schema trees h =
     let level = (kept schema).root_level in
     top_of schema.types (list_in None trees) (starts_in schema.types 1 (level_of schema.types 1) (ones trees) (ones_level schema.types trees) None trees (roots_typed schema.types trees h) (omega (arith, level)))
@@ -218,7 +218,7 @@ low_trees kept schema trees h =
     ∙ deep_in schema.types (deepens kept schema) 1 (level_of schema.types 1) (ones trees) (ones_level schema.types trees) None trees (roots_typed schema.types trees h) (omega (arith, level))
 
 -- a row that isn't deeper than roots is one
-record IsHead (trees : Chains) (p : Placed) : Type 0 where
+pub record IsHead (trees : Chains) (p : Placed) : Type 0 where
   pub root : Occurrence
   pub among : Among root (heads_in trees)
   pub is : placed None root ≡ p
@@ -233,7 +233,7 @@ head_of kept schema (segment s below next) h p (inr a) low =
     (λ b. let two = leb-true 2 (row_level schema.types p.row) (among_passes (is_deep schema.types 2) p (list_in (Some s.name) below) b deep) in absurd (omega (arith, two, low)))
     (λ b. let r = head_of kept schema next t.later p b low in (r.0, inr (r.1), r.2)) (among_append p (list_in (Some s.name) below) (list_of None next) a)
 
-head_in : SchemasAreKept → (schema : Schema) (trees : Chains) → are_roots schema.types trees ≡ true → (p : Placed) → Among p (list_in None trees) → row_level schema.types p.row ≤ 1 → IsHead trees p
+pub head_in : SchemasAreKept → (schema : Schema) (trees : Chains) → are_roots schema.types trees ≡ true → (p : Placed) → Among p (list_in None trees) → row_level schema.types p.row ≤ 1 → IsHead trees p
 head_in kept schema no_chain h p a low = absurd a
 head_in kept schema (chain twins more) h p a low =
     let q = and_parts (are_of schema.types 1 twins) (are_roots schema.types more) h in
@@ -326,16 +326,16 @@ content_one kept schema front behind side changed name content a has is =
 
 -- ---- what doesn't stand before a new row
 
-truth_off : (b : Bool) → (b ≡ true → ⊥) → b ≡ false
+pub truth_off : (b : Bool) → (b ≡ true → ⊥) → b ≡ false
 truth_off true f = absurd (f refl)
 truth_off false f = refl
 
-stands_off : (schema : Schema) (new row : Row) → is_parent row new ≡ false → is_lower_child new row ≡ false → is_twin_before schema new row ≡ false → not (stands_before schema new row) ≡ true
+pub stands_off : (schema : Schema) (new row : Row) → is_parent row new ≡ false → is_lower_child new row ≡ false → is_twin_before schema new row ≡ false → not (stands_before schema new row) ≡ true
 stands_off schema new row a b c =
     ap (λ (x : Bool). not (x || is_lower_child new row || is_twin_before schema new row)) a ∙ ap (λ (x : Bool). not (x || is_twin_before schema new row)) b ∙ ap not c
 
 -- of another parent
-strange : (schema : Schema) (new row : Row) → is_parent row new ≡ false → same_parent row.parent new.parent ≡ false → not (stands_before schema new row) ≡ true
+pub strange : (schema : Schema) (new row : Row) → is_parent row new ≡ false → same_parent row.parent new.parent ≡ false → not (stands_before schema new row) ≡ true
 strange schema new row a s =
     stands_off schema new row a (ap (λ (b : Bool). b && nat_lt row.code new.code) s)
     (ap (λ (b : Bool). (row.code == new.code && b) && goes_before (is_first schema new.code) (twin_cmp schema row new)) s ∙ right (row.code == new.code) (goes_before (is_first schema new.code) (twin_cmp schema row new)))
@@ -394,7 +394,7 @@ less_is Less h = refl
 less_is Equal h = cc
 less_is Greater h = cc
 
-root_before : (schema : Schema) (root new : Occurrence) → root.code ≡ 1 → new.code ≡ 1 → is_lt (root_cmp schema (key_of schema root) (key_of schema new)) ≡ true → stands_before schema (placed None new).row (placed None root).row ≡ true
+pub root_before : (schema : Schema) (root new : Occurrence) → root.code ≡ 1 → new.code ≡ 1 → is_lt (root_cmp schema (key_of schema root) (key_of schema new)) ≡ true → stands_before schema (placed None new).row (placed None root).row ≡ true
 root_before schema root new a b h =
     let cmp : twin_cmp schema (placed None root).row (placed None new).row ≡ Less =
     ap (λ (c : Bool). cond c (root_cmp schema (key_of schema root) (key_of schema new)) (key_cmp (key_of schema root) (key_of schema new))) (eq-eqb root.code 1 a) ∙ less_is (root_cmp schema (key_of schema root) (key_of schema new)) h in
@@ -402,7 +402,7 @@ root_before schema root new a b h =
     ap (λ (c : Bool). (c && true) && goes_before (is_first schema new.code) (twin_cmp schema (placed None root).row (placed None new).row)) (eq-eqb root.code new.code (a ∙ sym b)) ∙ ap (goes_before (is_first schema new.code)) cmp in
     or_right (is_lower_child (placed None new).row (placed None root).row) (is_twin_before schema (placed None new).row (placed None root).row) twin
 
-root_behind : (schema : Schema) → IsTotalOrder (root_cmp schema) → (root new : Occurrence) → root.code ≡ 1 → new.code ≡ 1 → is_lt (root_cmp schema (key_of schema new) (key_of schema root)) ≡ true → not (stands_before schema (placed None new).row (placed None root).row) ≡ true
+pub root_behind : (schema : Schema) → IsTotalOrder (root_cmp schema) → (root new : Occurrence) → root.code ≡ 1 → new.code ≡ 1 → is_lt (root_cmp schema (key_of schema new) (key_of schema root)) ≡ true → not (stands_before schema (placed None new).row (placed None root).row) ≡ true
 root_behind schema total root new a b h =
     let cmp : twin_cmp schema (placed None root).row (placed None new).row ≡ Greater =
     ap (λ (c : Bool). cond c (root_cmp schema (key_of schema root) (key_of schema new)) (key_cmp (key_of schema root) (key_of schema new))) (eq-eqb root.code 1 a)
@@ -411,7 +411,7 @@ root_behind schema total root new a b h =
     (ap (λ (c : Bool). (c && true) && goes_before (is_first schema new.code) (twin_cmp schema (placed None root).row (placed None new).row)) (eq-eqb root.code new.code (a ∙ sym b)) ∙ ap (goes_before (is_first schema new.code)) cmp)
 
 -- a row that is deeper than roots doesn't stand before a new root
-deeper_off : SchemasAreKept → (schema : Schema) (new : Occurrence) (row : Row) → new.code ≡ 1 → 1 < row_level schema.types row → not (stands_before schema (placed None new).row row) ≡ true
+pub deeper_off : SchemasAreKept → (schema : Schema) (new : Occurrence) (row : Row) → new.code ≡ 1 → 1 < row_level schema.types row → not (stands_before schema (placed None new).row row) ≡ true
 deeper_off kept schema new row one deep =
     stands_off schema (placed None new).row row refl (ap (λ (b : Bool). same_parent row.parent None && b) (le-ltb row.code new.code (coded row.code deep)) ∙ right (same_parent row.parent None))
     (ap (λ (b : Bool). (b && same_parent row.parent None) && goes_before (is_first schema new.code) (twin_cmp schema row (placed None new).row)) (ne_eqb row.code new.code (λ e. apart (e ∙ one))))
@@ -432,11 +432,6 @@ sides_pass test [] h = refl
 sides_pass test (side ∷ sides) h =
     let p = and_parts (list_all test (heads_in side.trees)) (list_all (λ (s : PlacedSide). list_all test (heads_in s.trees)) sides) h in
     ap (list_all test) (beside_heads side.trees (joined sides)) ∙ all_append test (heads_in side.trees) (heads_in (joined sides)) p.0 (sides_pass test sides p.1)
-
-among_placed : (row : Row) (list : List Placed) → Among row (rows_of list) → (p : Placed) × Among p list × (p.row ≡ row)
-among_placed row [] a = absurd a
-among_placed row (p ∷ list) (inl e) = (p, inl refl, e)
-among_placed row (p ∷ list) (inr a) = let q = among_placed row list a in (q.0, inr (q.1), q.2)
 
 root_one : SchemasAreKept → ((schema : Schema) → IsTotalOrder (root_cmp schema)) → (schema : Schema) (front behind : List PlacedSide) (side changed : PlacedSide) (new : Occurrence) → IsAmong schema front side behind → new.code ≡ 1
     → StandsInSide schema front behind new → rows_in changed ≡ inserted schema (rows_in side) (placed None new).row → rows_in_all (front ++ changed ∷ behind) ≡ inserted schema (rows_in_all (front ++ side ∷ behind)) (placed None new).row
@@ -473,7 +468,7 @@ root_one kept total schema front behind side changed new a one stands is =
 
     before : AllBefore schema row (rows_in_all front)
     before r m low =
-        let p = among_placed r (listed front) m in
+        let p = among_row r (listed front) m in
         let in_trees : Among (p.0) (list_in None (joined front)) = subst (λ (l : List Placed). Among (p.0) l) (sym (joined_list front)) (p.1) in
         let same : row_level schema.types (p.0).row ≡ row_level schema.types r = ap (row_level schema.types) (p.2) in
         let h = head_in kept schema (joined front) t.front_typed (p.0) in_trees (omega (arith, same, low)) in

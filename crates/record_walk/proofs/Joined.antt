@@ -73,7 +73,7 @@ joined_typed types (side ∷ sides) h = beside_typed types side.trees (joined si
 
 pub sides_typed : (schema : Schema) (sides : List PlacedSide) → AllByRecursion (λ side. IsSideOf schema side.place side.cells side.rows side.trees) sides → AreTyped schema.types sides
 sides_typed schema [] h = tt
-sides_typed schema (side ∷ sides) h = (h.0.typed, sides_typed schema sides (h.1))
+sides_typed schema (side ∷ sides) h = (h.0.walked.typed, sides_typed schema sides (h.1))
 
 joined_twins : (schema : Schema) (sides : List PlacedSide) → list_all (λ side. twins_follow_in schema side.trees) sides ≡ true → twins_follow_in schema (joined sides) ≡ true
 joined_twins schema [] h = refl
@@ -139,7 +139,7 @@ before_all schema a sides own h p =
         (among_passes (λ x. list_all (λ s. is_lt (root_cmp schema (key_of schema x) (key_of schema s))) (heads_in b.trees)) r (heads_in a.trees) m (across_sides schema a b own (rooted b (h.0)) q.0), each r m l (h.1) q.1)
       where
         rooted : (b : PlacedSide) → IsSideOf schema b.place b.cells b.rows b.trees → Rooted schema b.place (heads_in b.trees)
-        rooted b s = s.roots_belong
+        rooted b s = s.walked.roots_belong
 
 joined_rise : (schema : Schema) (sides : List PlacedSide) → AllByRecursion (λ side. IsSideOf schema side.place side.cells side.rows side.trees) sides → all_pairs (precedes schema) sides ≡ true → roots_rise schema (heads_in (joined sides)) ≡ true
 joined_rise schema [] h p = refl
@@ -147,7 +147,7 @@ joined_rise schema (side ∷ sides) h p =
     let q = and_parts (list_all (precedes schema side) sides) (all_pairs (precedes schema) sides) p in
     ap (roots_rise schema) (beside_heads side.trees (joined sides))
     ∙ pairs_join (λ a b. is_lt (root_cmp schema (key_of schema a) (key_of schema b))) (heads_in side.trees) (heads_in (joined sides))
-    (record { front = h.0.roots_are_rising; back = joined_rise schema sides (h.1) q.1; across = before_all schema side sides (h.0.roots_belong) (h.1) q.0 })
+    (record { front = h.0.walked.roots_are_rising; back = joined_rise schema sides (h.1) q.1; across = before_all schema side sides (h.0.walked.roots_belong) (h.1) q.0 })
 
 -- ---- each root has a partition
 
@@ -202,7 +202,7 @@ in_partition : (schema : Schema) (sides : List PlacedSide) → AllByRecursion (�
     → AllByRecursion (λ side. list_all (λ root. is_some (partition_of schema (key_of schema root))) (heads_in side.trees) ≡ true) sides
 in_partition schema [] h = tt
 in_partition schema (side ∷ sides) h =
-    (all_weaker (belongs schema side.place) (λ root. is_some (partition_of schema (key_of schema root))) (λ root b. ap is_some (belongs_at schema side.place root b)) (heads_in side.trees) (h.0.roots_belong), in_partition schema sides (h.1))
+    (all_weaker (belongs schema side.place) (λ root. is_some (partition_of schema (key_of schema root))) (λ root b. ap is_some (belongs_at schema side.place root b)) (heads_in side.trees) (h.0.walked.roots_belong), in_partition schema sides (h.1))
 
 pub rows_pass : (test : Row → Bool) (list : List Placed) → list_all (λ (p : Placed). test p.row) list ≡ list_all test (rows_of list)
 rows_pass test [] = refl

@@ -17,7 +17,7 @@ use Rattle.record_walk.proofs.OnLists.{deepens, count, count_append, counted, co
 
 -- ---- types
 
-from_typed : (types : List SegType) (code : ℕ) (s : Occurrence) (below : Chains) (next : Twins) → s.code ≡ code → are_chains_of types (child_codes types code) below ≡ true → are_of types code next ≡ true
+pub from_typed : (types : List SegType) (code : ℕ) (s : Occurrence) (below : Chains) (next : Twins) → s.code ≡ code → are_chains_of types (child_codes types code) below ≡ true → are_of types code next ≡ true
     → are_of types code (segment s below next) ≡ true
 from_typed types code s below next e under later =
     and_from (s.code == code && are_chains_of types (child_codes types code) below) (are_of types code next) (and_from (s.code == code) (are_chains_of types (child_codes types code) below) (eq-eqb s.code code e) under) later

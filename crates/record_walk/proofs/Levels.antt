@@ -4,11 +4,11 @@ use Rattle.std.specs.Prelude.{filter}
 use Rattle.std.specs.List.{list_all, enumerate_from, slice_get, AllByRecursion}
 use Rattle.std.specs.Option.{option_map_or}
 use Rattle.std.proofs.lemmas.Bool.{and_parts, and_from, eqb-true, leb-true, le-leb, false≢true}
-use Rattle.std.proofs.lemmas.List.Folds.{list_all-append}
 use Rattle.hal_base.specs.declared.place.Ilk.{Ilk}
 use Rattle.hal_schema.specs.declared.schema.SegType.{SegType}
 use Rattle.hal_schema.specs.SegType.{type_of, parent_code, level_of, is_child}
 use Rattle.hal_schema.specs.Row.{row_level}
+use Rattle.forest_laws.proofs.Lists.{all_append}
 use Rattle.record_walk.specs.Tree.{Occurrence, Twins, no_segment, segment, Chains, no_chain, chain, child_codes, are_of, are_chains_of, are_roots}
 use Rattle.record_walk.specs.Listing.{Placed, placed, list_of, list_in}
 use Rattle.record_walk.specs.Spans.{starts_upto}
@@ -44,9 +44,6 @@ codes_level types deepens code n (t ∷ ts) h =
 
 pub children_level : (types : List SegType) → Deepens types → (code : ℕ) → AtLevel types (level_of types code + 1) (child_codes types code)
 children_level types deepens code = codes_level types deepens code 1 types (λ k t e. let same : 1 + k ≡ suc k = omega arith in ap (type_of types) same ∙ e)
-
-pub all_append : {X : Type 0} (p : X → Bool) (xs ys : List X) → list_all p xs ≡ true → list_all p ys ≡ true → list_all p (xs ++ ys) ≡ true
-all_append p xs ys a b = list_all-append p xs ys ∙ and_from (list_all p xs) (list_all p ys) a b
 
 -- what a typed segment is
 pub record Typed (types : List SegType) (code : ℕ) (s : Occurrence) (below : Chains) (next : Twins) : Type 0 where

@@ -16,3 +16,5 @@ pub mod RecordOf
 pub mod ListedCells
 pub mod InOneSide
 pub mod ChangedSides
+pub mod FirstChildren
+pub mod ExampleChanges

@@ -8,11 +8,11 @@ use Rattle.hal_base.specs.declared.place.Ilk.{Ilk}
 use Rattle.hal_schema.specs.Row.{same_name}
 use Rattle.hal_schema.proofs.RowNames.{name_from}
 use Rattle.segment_blocks.specs.declared.tile.Cell.{Cell}
+use Rattle.forest_laws.proofs.Lists.{all_append}
 use Rattle.record_walk.specs.Tree.{Occurrence, Twins, no_segment, segment, Chains, no_chain, chain, cell_of, Hangs, HangIn}
 use Rattle.record_walk.specs.Listing.{Placed, placed, list_of, list_in}
 use Rattle.record_walk.specs.Side.{alone, seen}
 use Rattle.record_walk.specs.InRecords.{is_cell_of, SidesListTheirCells}
-use Rattle.record_walk.proofs.Levels.{all_append}
 use Rattle.record_walk.proofs.OnLists.{count, counted_in}
 use Rattle.record_walk.proofs.RecordOf.{bytes_itself, differ_in}
 
@@ -75,7 +75,7 @@ counted_any home (p ∷ list) h = by (p.home == home) h (counted_any home list)
 
 pub sides_list_their_cells : SidesListTheirCells
 sides_list_their_cells schema place cells rows trees side = record {
-  stand = all_stand_in schema.phdam cells None trees side.hangs;
-  met = λ home cell is kept. let m = side.all_met home cell is kept in let c = counted_in home None trees in counted_any home (list_in None trees) (omega (arith, m, c));
-  once = differ_in trees side.once;
+  stand = all_stand_in schema.phdam cells None trees side.walked.hangs;
+  met = λ home cell is kept. let m = side.walked.all_met home cell is kept in let c = counted_in home None trees in counted_any home (list_in None trees) (omega (arith, m, c));
+  once = differ_in trees side.walked.once;
 }

@@ -13,6 +13,7 @@ use Rattle.hal_schema.specs.Row.{row_level}
 use Rattle.hal_schema.specs.Facts.{SchemasAreKept}
 use Rattle.hal_schema.specs.Span.{with_content}
 use Rattle.segment_blocks.specs.declared.tile.Cell.{Cell}
+use Rattle.forest_laws.proofs.Lists.{all_weaker, drop_front}
 use Rattle.record_walk.specs.Tree.{Occurrence, Twins, no_segment, segment, Chains, no_chain, chain, first_of, firsts_of, cell_of, here, times, times_in, child_codes, are_of}
 use Rattle.record_walk.specs.Listing.{Placed, placed, list_of, list_in}
 use Rattle.record_walk.specs.Pointers.{Pointer, Behind, Below, Root, with_chain, in_home, with_pointer, bare, before_twins, behind_first, without_segment}
@@ -86,19 +87,9 @@ alone_at trees once front p rest was =
 
 -- ---- spans
 
-take_front : {X : Type 0} (xs ys : List X) → take (length xs) (xs ++ ys) ≡ xs
+pub take_front : {X : Type 0} (xs ys : List X) → take (length xs) (xs ++ ys) ≡ xs
 take_front [] ys = refl
 take_front (x ∷ xs) ys = ap (λ l. x ∷ l) (take_front xs ys)
-
-drop_front : {X : Type 0} (xs ys : List X) → drop (length xs) (xs ++ ys) ≡ ys
-drop_front [] ys = refl
-drop_front (x ∷ xs) ys = drop_front xs ys
-
-pub all_weaker : {X : Type 0} (p q : X → Bool) → ((x : X) → p x ≡ true → q x ≡ true) → (xs : List X) → list_all p xs ≡ true → list_all q xs ≡ true
-all_weaker p q w [] h = refl
-all_weaker p q w (x ∷ xs) h =
-    let a = and_parts (p x) (list_all p xs) h in
-    and_from (q x) (list_all q xs) (w x a.0) (all_weaker p q w xs a.1)
 
 prefix_is : (types : List SegType) (p : Placed) (below back : List Placed) → list_all (lies_below types p) below ≡ true → starts_upto types (row_level types p.row) back ≡ true
     → prefix_len (lies_below types p) (below ++ back) ≡ length below
@@ -146,7 +137,7 @@ below_lies types deepens parent s below next h =
 
 -- ---- the chain behind a pointer
 
-bare_list : (parent : Option Ilk) (kinds : ℕ) → list_in parent (bare kinds) ≡ []
+pub bare_list : (parent : Option Ilk) (kinds : ℕ) → list_in parent (bare kinds) ≡ []
 bare_list parent zero = refl
 bare_list parent (suc kinds) = bare_list parent kinds
 
@@ -154,8 +145,8 @@ one_time : (home : ℕ) (trees : Chains) → ((o : ℕ) → times_in o trees ≤
 one_time home trees once m = let few = once home in omega (arith, few, m)
 
 -- where a segment stands among the trees of records
-segment_in : (schema : Schema) → Deepens schema.types → (cells : ℕ → Option Cell) (firsts : List ℕ) (trees : Chains) → AreRecords schema cells firsts trees → (home : ℕ) → 0 < times_in home trees → (edit : Occurrence → Chains → Twins → Twins)
-    → Split schema.types cells (level_of schema.types 1) home edit (list_in None trees) (list_in None (in_home home edit trees))
+pub segment_in : (schema : Schema) → Deepens schema.types → (cells : ℕ → Option Cell) (firsts : List ℕ) (trees : Chains) → AreRecords schema cells firsts trees → (home : ℕ) → 0 < times_in home trees → (edit : Occurrence → Chains → Twins → Twins)
+    → Split schema.types cells (level_of schema.types 1) home edit None (list_in None trees) (list_in None (in_home home edit trees))
 segment_in schema deepens cells firsts trees r home m edit =
     split_in schema.types deepens cells home edit (level_of schema.types 1) (ones trees) (ones_level schema.types trees) None trees (roots_typed schema.types trees r.typed) r.from.hang (one_time home trees r.once m)
 

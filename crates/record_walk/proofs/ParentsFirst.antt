@@ -17,11 +17,13 @@ use Rattle.hal_schema.specs.Row.{same_name, row_level}
 use Rattle.hal_schema.specs.Paths.{path_with, path_after, with_paths}
 use Rattle.hal_schema.specs.Forest.{is_child_of, is_path, rows_are_below_parents}
 use Rattle.hal_schema.proofs.RowNames.{name_itself}
+use Rattle.forest_laws.proofs.Lists.{all_append, all_weaker, filter_all, all_filtered}
+use Rattle.forest_laws.proofs.Carried.{with_append}
 use Rattle.record_walk.specs.Tree.{Occurrence, Twins, no_segment, segment, Chains, no_chain, chain, child_codes, are_of, are_chains_of, are_roots}
 use Rattle.record_walk.specs.Listing.{Placed, placed, list_of, list_in, rows_of}
 use Rattle.record_walk.specs.Parents.{ParentsStandFirst}
-use Rattle.record_walk.proofs.Levels.{Deepens, AtLevel, child_is, children_level, all_append, typed, is_deep, deep, deep_in, ones, roots_typed, ones_level}
-use Rattle.record_walk.proofs.OnLists.{deepens, all_weaker}
+use Rattle.record_walk.proofs.Levels.{Deepens, AtLevel, child_is, children_level, typed, is_deep, deep, deep_in, ones, roots_typed, ones_level}
+use Rattle.record_walk.proofs.OnLists.{deepens}
 use Rattle.record_walk.proofs.ByName.{append_rows}
 
 -- ---- child types
@@ -48,24 +50,6 @@ children_parents : (types : List SegType) (code : ℕ) → HaveParent types code
 children_parents types code = codes_parents types code 1 types (λ k t e. let same : 1 + k ≡ suc k = omega arith in ap (type_of types) same ∙ e)
 
 -- ---- paths that are carried along
-
-with_append : (level : Row → ℕ) (path xs ys : List Row) → with_paths level path (xs ++ ys) ≡ with_paths level path xs ++ with_paths level (path_after level path xs) ys
-with_append level path [] ys = refl
-with_append level path (x ∷ xs) ys = ap (λ l. (path_with level path x, x) ∷ l) (with_append level (path_with level path x) xs ys)
-
-filter_all : (p : Row → Bool) (xs : List Row) → list_all p xs ≡ true → filter p xs ≡ xs
-filter_all p [] h = refl
-filter_all p (x ∷ xs) h =
-    let a = and_parts (p x) (list_all p xs) h in
-    ap (λ (b : Bool). cond b (x ∷ filter p xs) (filter p xs)) a.0 ∙ ap (λ l. x ∷ l) (filter_all p xs a.1)
-
-all_filtered : (p : Row → Bool) (xs : List Row) → list_all p (filter p xs) ≡ true
-all_filtered p [] = refl
-all_filtered p (x ∷ xs) = by (p x) refl (all_filtered p xs)
-  where
-    by : (b : Bool) → p x ≡ b → list_all p (filter p xs) ≡ true → list_all p (cond b (x ∷ filter p xs) (filter p xs)) ≡ true
-    by true e rest = and_from (p x) (list_all p (filter p xs)) e rest
-    by false e rest = rest
 
 -- what is of a higher level than n
 abbrev higher : (Row → ℕ) → ℕ → List Row → List Row

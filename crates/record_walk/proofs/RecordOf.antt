@@ -135,7 +135,7 @@ all_turned : (P Q : List Row × Row → Type 0) → ((p : List Row × Row) → P
 all_turned P Q f [] h = tt
 all_turned P Q f (x ∷ xs) h = (f x (h.0), all_turned P Q f xs (h.1))
 
-among_row : (row : Row) (list : List Placed) → Among row (rows_of list) → (p : Placed) × Among p list × (p.row ≡ row)
+pub among_row : (row : Row) (list : List Placed) → Among row (rows_of list) → (p : Placed) × Among p list × (p.row ≡ row)
 among_row row [] a = absurd a
 among_row row (p ∷ list) (inl e) = (p, inl refl, e)
 among_row row (p ∷ list) (inr a) = let q = among_row row list a in (q.0, inr (q.1), q.2)
@@ -371,7 +371,7 @@ entries_hang_in_records kept schema front behind side index sides names =
     let tell = all_tell list front behind side
     (λ p q a b e. apart_names q.row p.row (among_passes (apart q) p (list ++ listed behind) (among_left p list (listed behind) a) (among_passes (λ x. list_all (apart x) (list ++ listed behind)) q (listed front) b parts.across)) (sym e))
     (λ p q a b e. apart_names p.row q.row (among_passes (apart p) q (listed behind) b (among_passes (λ x. list_all (apart x) (listed behind)) p list a rest.across)) e)
-    (own_chains kept schema list [] side.trees own.typed refl rest.front (differ_in side.trees own.once)) in
+    (own_chains kept schema list [] side.trees own.walked.typed refl rest.front (differ_in side.trees own.walked.once)) in
     let leads = chains_lead kept schema list (joined all) (joined_typed types all (sides_typed schema all sides)) tell in
     let test : Entry → Bool = λ entry. list_all (hangs_by types (λ (p : Placed). p.home) (λ (p : Placed). p.row) list entry) list in
     all_in_order test (entries_by_row types index (paths_of types (rows_of (listed all))))

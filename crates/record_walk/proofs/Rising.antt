@@ -189,16 +189,16 @@ abbrev pub IsOfSiblings : (Placed → Placed → Bool) → Type 0
 IsOfSiblings t = (p q : Placed) → (p.row.parent ≡ q.row.parent → ⊥) → t p q ≡ true
 
 abbrev mutual
-  fits : (Placed → Placed → Bool) → Option Ilk → Twins → Bool
+  pub fits : (Placed → Placed → Bool) → Option Ilk → Twins → Bool
   fits t parent no_segment = true
   fits t parent (segment s below next) = list_all (λ u. t (placed parent s) (placed parent u)) (heads_of next) && (fits_in t (Some s.name) below && fits t parent next)
 
-  fits_in : (Placed → Placed → Bool) → Option Ilk → Chains → Bool
+  pub fits_in : (Placed → Placed → Bool) → Option Ilk → Chains → Bool
   fits_in t parent no_chain = true
   fits_in t parent (chain twins more) = list_all (λ u. list_all (λ v. t (placed parent u) (placed parent v)) (heads_in more)) (heads_of twins) && (fits t parent twins && fits_in t parent more)
 
 mutual
-  pairs_of : (t : Placed → Placed → Bool) → IsOfSiblings t → (parent : Option Ilk) (twins : Twins) → Named parent (list_of parent twins) → all_pairs t (list_of parent twins) ≡ fits t parent twins
+  pub pairs_of : (t : Placed → Placed → Bool) → IsOfSiblings t → (parent : Option Ilk) (twins : Twins) → Named parent (list_of parent twins) → all_pairs t (list_of parent twins) ≡ fits t parent twins
   pairs_of t of parent no_segment n = refl
   pairs_of t of parent (segment s below next) n =
       let low : List Placed = list_in (Some s.name) below in
@@ -335,10 +335,10 @@ mutual
 
 -- ---- twins stand by their keys
 
-abbrev by_key : Schema → Placed → Placed → Bool
+abbrev pub by_key : Schema → Placed → Placed → Bool
 by_key schema p q = in_twin_order schema p.row q.row
 
-by_key_of : (schema : Schema) → IsOfSiblings (by_key schema)
+pub by_key_of : (schema : Schema) → IsOfSiblings (by_key schema)
 by_key_of schema p q off = twin_order_from schema p.row q.row (λ c e. absurd (off e))
 
 -- of two segments of one chain the test is that of their keys
@@ -354,7 +354,7 @@ and_regroup true b c = refl
 and_regroup false b c = refl
 
 mutual
-  keys_of : (schema : Schema) (parent : Option Ilk) (code : ℕ) (twins : Twins) → are_of schema.types code twins ≡ true → fits (by_key schema) parent twins ≡ twins_follow schema twins
+  pub keys_of : (schema : Schema) (parent : Option Ilk) (code : ℕ) (twins : Twins) → are_of schema.types code twins ≡ true → fits (by_key schema) parent twins ≡ twins_follow schema twins
   keys_of schema parent code no_segment h = refl
   keys_of schema parent code (segment s below next) h =
       let t = typed schema.types code s below next h in

@@ -160,6 +160,10 @@ lost = cell_at_home 16 1 0 (0 ∷ 0 ∷ []) (codes "001aa") ∷ cell_at_home 112
 abbrev pub two_roots : List (ℕ × Cell)
 two_roots = cell_at_home 16 1 0 (0 ∷ 0 ∷ []) (codes "001aa") ∷ single 96 (codes "700bb")
 
+-- two roots in one chain, the second of another anchor than the first
+abbrev pub two_anchors : List (ℕ × Cell)
+two_anchors = cell_at_home 96 1 16 (0 ∷ 0 ∷ []) (codes "000bb") ∷ single 16 (codes "001aa")
+
 -- each breaks one part of what a side is
 pub record BreakAPart : Type 0 where
   -- a row that leads to no cell; a row that leads nowhere; a row under another key; in PHDAM a root in the chain of another anchor
@@ -167,6 +171,7 @@ pub record BreakAPart : Type 0 where
   pub unused_row : IsNoSide phidam (single 16 (codes "001aa")) (row (codes "000") 0 ∷ row (codes "001") 16 ∷ [])
   pub other_key : IsNoSide phidam (single 16 (codes "001aa")) (row (codes "002") 16 ∷ [])
   pub other_anchor : IsNoSide phdam (single 16 (codes "001aa")) (row (0 ∷ 0 ∷ 0 ∷ 0 ∷ []) 16 ∷ [])
+  pub other_chain : IsNoSide phdam two_anchors (row (0 ∷ 0 ∷ 0 ∷ 0 ∷ []) 96 ∷ [])
   -- a row that leads to a copied cell
   pub copied_is_met : IsNoSide phidam (example_cells 0) (row (codes "000") 144 ∷ [])
   pub wrong_type : IsNoSide phidam misplaced (row (codes "001") 16 ∷ [])

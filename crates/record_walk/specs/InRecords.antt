@@ -16,7 +16,8 @@ use Rattle.record_walk.specs.Listing.{Placed, list_in, rows_of}
 use Rattle.record_walk.specs.Side.{RootRow, IsSideOf}
 use Rattle.record_walk.specs.Volume.{PlacedSide, listed, AreAllSides}
 
--- The root of the record in which the row at a home hangs: the last root at or before that row, and none where no row has the home. It is said of any items with homes and
+-- The root of the record in which the row at a home hangs: the last root at or before that row, and none where no row has the home. It is said of any
+-- items with homes and
 -- rows.
 abbrev pub root_above : {X : Type 0} → (X → ℕ) → (X → Row) → Option Row → List X → ℕ → Option Row
 root_above home row root [] at = None

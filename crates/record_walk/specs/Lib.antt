@@ -13,5 +13,7 @@ pub mod Volume
 pub mod InRecords
 pub mod OneSide
 pub mod SideChanges
+pub mod Firsts
 pub mod OneProof
 pub mod Examples
+pub mod ChangeExamples

@@ -7,7 +7,7 @@ use Rattle.std.specs.Option.{option_map_or}
 use Rattle.hal_schema.specs.declared.schema.Schema.{Schema}
 use Rattle.segment_blocks.specs.declared.tile.Cell.{Cell}
 use Rattle.record_walk.specs.Tree.{Occurrence, Twins, no_segment, segment, Chains, no_chain, chain, first_of, firsts_of, cell_of, Hangs, HangIn}
-use Rattle.record_walk.specs.Side.{RootRow, seen, IsSideOf, IsSide}
+use Rattle.record_walk.specs.Side.{RootRow, seen, IsWalked, IsSideOf, IsSide}
 
 mutual
   hangs : (cells : ℕ → Option Cell) (twins : Twins) → IsProp (Hangs cells twins)
@@ -18,8 +18,11 @@ mutual
   hang_in cells no_chain = hlevel
   hang_in cells (chain twins more) = hlevel (hangs cells twins, hang_in cells more)
 
+walked : (schema : Schema) (place : ℕ) (cells : ℕ → Option Cell) (rows : List RootRow) (trees : Chains) → IsProp (IsWalked schema place cells rows trees)
+walked schema place cells rows trees = hlevel (le_prop, Coded-set, codes, hang_in (seen schema.phdam cells) trees)
+
 side_of : (schema : Schema) (place : ℕ) (cells : ℕ → Option Cell) (rows : List RootRow) (trees : Chains) → IsProp (IsSideOf schema place cells rows trees)
-side_of schema place cells rows trees = hlevel (le_prop, Coded-set, codes, hang_in (seen schema.phdam cells) trees)
+side_of schema place cells rows trees = hlevel (le_prop, Coded-set, codes, walked schema place cells rows trees)
 
 -- ---- a pointer has one tree
 
@@ -81,7 +84,9 @@ mutual
 
 pub IsSide-prop : (schema : Schema) (place : ℕ) (cells : ℕ → Option Cell) (rows : List RootRow) → IsProp (IsSide schema place cells rows)
 IsSide-prop schema place cells rows a b =
-    let trees : a.0 ≡ b.0 = unique_in (seen schema.phdam cells) (a.0) (b.0) (a.1.hangs) (b.1.hangs) (a.1.rows_lead ∙ sym (b.1.rows_lead)) in
+    let v = a.1.walked in
+    let w = b.1.walked in
+    let trees : a.0 ≡ b.0 = unique_in (seen schema.phdam cells) (a.0) (b.0) v.hangs w.hangs (v.rows_lead ∙ sym w.rows_lead) in
     subst (λ (u : Chains). (y : IsSideOf schema place cells rows u) → ◌≡◌ {A = IsSide schema place cells rows} (a.0, a.1) (u, y)) trees
     (λ y. ap (λ (z : IsSideOf schema place cells rows (a.0)). (a.0, z)) (side_of schema place cells rows (a.0) (a.1) y)) (b.1)
 

@@ -37,12 +37,16 @@ pub record ChangesOfOneSide : Type 0 where
   pub cut : (schema : Schema) (front behind : List PlacedSide) (side changed : PlacedSide) (name : Ilk) → IsAmong schema front side behind → HasName side name
       → rows_in changed ≡ without_span schema.types (rows_in side) name
       → rows_in_all (front ++ changed ∷ behind) ≡ without_span schema.types (rows_in_all (front ++ side ∷ behind)) name
-  pub content : (schema : Schema) (front behind : List PlacedSide) (side changed : PlacedSide) (name : Ilk) (content : List ℕ) → IsAmong schema front side behind → HasName side name
-      → rows_in changed ≡ replaced (rows_in side) name content → rows_in_all (front ++ changed ∷ behind) ≡ replaced (rows_in_all (front ++ side ∷ behind)) name content
+  pub content : (schema : Schema) (front behind : List PlacedSide) (side changed : PlacedSide) (name : Ilk) (content : List ℕ)
+      → IsAmong schema front side behind → HasName side name
+      → rows_in changed ≡ replaced (rows_in side) name content
+      → rows_in_all (front ++ changed ∷ behind) ≡ replaced (rows_in_all (front ++ side ∷ behind)) name content
   -- below a row of the side
-  pub child : (schema : Schema) (front behind : List PlacedSide) (side changed : PlacedSide) (above : Ilk) (new : Occurrence) → IsAmong schema front side behind → HasName side above
+  pub child : (schema : Schema) (front behind : List PlacedSide) (side changed : PlacedSide) (above : Ilk) (new : Occurrence)
+      → IsAmong schema front side behind → HasName side above
       → 0 < new.code → rows_in changed ≡ inserted schema (rows_in side) (placed (Some above) new).row
       → rows_in_all (front ++ changed ∷ behind) ≡ inserted schema (rows_in_all (front ++ side ∷ behind)) (placed (Some above) new).row
-  pub root : (schema : Schema) (front behind : List PlacedSide) (side changed : PlacedSide) (new : Occurrence) → IsAmong schema front side behind → new.code ≡ 1
+  pub root : (schema : Schema) (front behind : List PlacedSide) (side changed : PlacedSide) (new : Occurrence) → IsAmong schema front side behind
+      → new.code ≡ 1
       → StandsInSide schema front behind new → rows_in changed ≡ inserted schema (rows_in side) (placed None new).row
       → rows_in_all (front ++ changed ∷ behind) ≡ inserted schema (rows_in_all (front ++ side ∷ behind)) (placed None new).row

@@ -12,21 +12,25 @@ use Rattle.record_walk.specs.Side.{heads_of, heads_in, roots_rise}
 abbrev pub row_of : Occurrence → Row
 row_of s = (placed None s).row
 
--- Of the rules of a sound volume 7, in its part on twins: each may stand behind those before it. Unique keys rise, other keys never fall, and unkeyed twins stand as they
+-- Of the rules of a sound volume 7, in its part on twins: each may stand behind those before it. Unique keys rise, other keys never fall, and unkeyed
+-- twins stand as they
 -- came.
 abbrev mutual
   pub twins_follow : Schema → Twins → Bool
   twins_follow schema no_segment = true
-  twins_follow schema (segment s below next) = list_all (λ t. may_follow schema (row_of s) (row_of t)) (heads_of next) && twins_follow_in schema below && twins_follow schema next
+  twins_follow schema (segment s below next) =
+      list_all (λ t. may_follow schema (row_of s) (row_of t)) (heads_of next) && twins_follow_in schema below && twins_follow schema next
 
   pub twins_follow_in : Schema → Chains → Bool
   twins_follow_in schema no_chain = true
   twins_follow_in schema (chain twins more) = twins_follow schema twins && twins_follow_in schema more
 
--- In the list the children of a parent stand by their types, whatever their keys are; and twins stand in order just where those of each chain and the roots of all chains do.
+-- In the list the children of a parent stand by their types, whatever their keys are; and twins stand in order just where those of each chain and the
+-- roots of all chains do.
 pub record SiblingsOf (schema : Schema) (trees : Chains) : Type 0 where
   pub types : types_rise (rows_of (list_in None trees)) ≡ true
   pub twins : twins_rise schema (rows_of (list_in None trees)) ≡ (roots_rise schema (heads_in trees) && twins_follow_in schema trees)
 
 abbrev pub SiblingsRise : Type 0
-SiblingsRise = (schema : Schema) (trees : Chains) → are_roots schema.types trees ≡ true → all_pairs names_apart (rows_of (list_in None trees)) ≡ true → SiblingsOf schema trees
+SiblingsRise = (schema : Schema) (trees : Chains) → are_roots schema.types trees ≡ true
+    → all_pairs names_apart (rows_of (list_in None trees)) ≡ true → SiblingsOf schema trees

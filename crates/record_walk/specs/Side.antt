@@ -55,12 +55,10 @@ belongs schema place root = option_map_or (λ p. p == place) (partition_of schem
 abbrev pub roots_rise : Schema → List Occurrence → Bool
 roots_rise schema roots = all_pairs (λ a b. is_lt (root_cmp schema (key_of schema a) (key_of schema b))) roots
 
--- The side of the partition at a place: these trees hang from the rows of the root set. Of the rules of a sound volume it is 4; 5 but for what it says of partitions
--- that are idle; and 7 in its part on roots.
-pub record IsSideOf (schema : Schema) (place : ℕ) (cells : ℕ → Option Cell) (rows : List RootRow) (trees : Chains) : Type 0 where
+-- These trees hang from the rows of the root set of the partition at a place. A row may lead nowhere: a root's row comes before the root, and goes after it.
+pub record IsWalked (schema : Schema) (place : ℕ) (cells : ℕ → Option Cell) (rows : List RootRow) (trees : Chains) : Type 0 where
   -- rule 4: the rows lead to roots, by home and by key; in PHDAM (rule 7) each root stands in the chain of its own anchor
   pub rows_lead : firsts_of trees ≡ map (λ row. row.home) rows
-  pub rows_are_used : list_all (λ row. nat_lt 0 row.home) rows ≡ true
   pub rows_are_keyed : are_keyed schema rows trees ≡ true
   -- rule 5: the walk meets cells of the wanted types, none of them copied; each cell that isn't copied it meets just once
   pub hangs : HangIn (seen schema.phdam cells) trees
@@ -70,6 +68,12 @@ pub record IsSideOf (schema : Schema) (place : ℕ) (cells : ℕ → Option Cell
   -- rule 7: each root belongs to the partition, and their keys rise in the order of roots
   pub roots_belong : list_all (belongs schema place) (heads_in trees) ≡ true
   pub roots_are_rising : roots_rise schema (heads_in trees) ≡ true
+
+-- The side of the partition at a place: no row leads nowhere. Of the rules of a sound volume it is 4; 5 but for what it says of partitions that are
+-- idle; and 7 in its part on roots.
+pub record IsSideOf (schema : Schema) (place : ℕ) (cells : ℕ → Option Cell) (rows : List RootRow) (trees : Chains) : Type 0 where
+  pub walked : IsWalked schema place cells rows trees
+  pub rows_are_used : list_all (λ row. nat_lt 0 row.home) rows ≡ true
 
 -- such trees there are: the condition of an object that stands for a side
 abbrev pub IsSide : Schema → ℕ → (ℕ → Option Cell) → List RootRow → Type 0

@@ -1,27 +1,16 @@
 -- A changed side is a side again.
-use Rattle.std.specs.Prelude.{◌≡◌, ◌≢◌, ℕ, zero, suc, ◌<◌, ◌≤◌, nat_lt, true, false, List, [], ◌∷◌, length, map, insert, slice_get, Option, None, Some}
-use Rattle.std.specs.List.{list_all, remove}
+use Rattle.std.specs.Prelude.{◌≡◌, ◌≢◌, ℕ, zero, suc, ◌<◌, ◌≤◌, true, false, List, [], ◌∷◌, length, map, insert, slice_get, Option, None, Some}
+use Rattle.std.specs.List.{remove}
 use Rattle.std.specs.Option.{option_map}
 use Rattle.hal_schema.specs.declared.schema.Schema.{Schema}
 use Rattle.segment_blocks.specs.declared.tile.Cell.{Cell}
-use Rattle.record_walk.specs.Tree.{Occurrence, Chains, firsts_of, HangIn, times_in, child_codes, are_roots}
+use Rattle.record_walk.specs.Tree.{Occurrence, Chains, times_in, child_codes}
 use Rattle.record_walk.specs.Pointers.{Pointer, Behind, Below, Root, with_segment, without_segment, with_content_at}
-use Rattle.record_walk.specs.Side.{RootRow, seen, heads_in, key_of, row_key_of, are_keyed, belongs, roots_rise, IsSideOf}
+use Rattle.record_walk.specs.Side.{RootRow, seen, heads_in, key_of, row_key_of, belongs, roots_rise, IsWalked}
 use Rattle.record_walk.specs.Changes.{stands_in, leads_to, set_in_cell, new_cell, set_content}
 use Rattle.record_walk.specs.Spans.{IsIn}
 use Rattle.record_walk.specs.Records.{code_behind}
 use Rattle.record_walk.specs.Roots.{with_row, without_row}
-
--- A side in which a row of the root set may lead nowhere. A change goes through it where a root's row comes before the root, or goes after it.
-pub record IsWalked (schema : Schema) (place : ℕ) (cells : ℕ → Option Cell) (rows : List RootRow) (trees : Chains) : Type 0 where
-  pub rows_lead : firsts_of trees ≡ map (λ row. row.home) rows
-  pub rows_are_keyed : are_keyed schema rows trees ≡ true
-  pub hangs : HangIn (seen schema.phdam cells) trees
-  pub typed : are_roots schema.types trees ≡ true
-  pub once : (home : ℕ) → times_in home trees ≤ 1
-  pub all_met : (home : ℕ) (cell : Cell) → cells home ≡ Some cell → cell.copied ≡ false → 0 < times_in home trees
-  pub roots_belong : list_all (belongs schema place) (heads_in trees) ≡ true
-  pub roots_are_rising : roots_rise schema (heads_in trees) ≡ true
 
 -- the pointer as its cell or its row has it
 abbrev pub leads_in : Schema → Pointer → (ℕ → Option Cell) → List RootRow → ℕ
@@ -45,11 +34,14 @@ set_in_root_rows (Root place) to rows = set_home place to rows
 abbrev pub segment_in : ℕ → Cell → Occurrence
 segment_in home cell = record { home = home; code = cell.code; name = cell.name; content = cell.content }
 
--- A new root belongs to the partition, has the key of its row, and stands in order among the roots. Behind a root it has that root's row. In PHIDAM a row leads to one root.
-pub record FitsAsRoot (schema : Schema) (place : ℕ) (cells : ℕ → Option Cell) (rows : List RootRow) (pointer : Pointer) (new : Occurrence) (trees : Chains) : Type 0 where
+-- A new root belongs to the partition, has the key of its row, and stands in order among the roots. Behind a root it has that root's row. In PHIDAM a
+-- row leads to one root.
+pub record FitsAsRoot (schema : Schema) (place : ℕ) (cells : ℕ
+    → Option Cell) (rows : List RootRow) (pointer : Pointer) (new : Occurrence) (trees : Chains) : Type 0 where
   pub belongs : belongs schema place new ≡ true
   pub at_head : (at : ℕ) (row : RootRow) → pointer ≡ Root at → slice_get rows at ≡ Some row → row_key_of schema new ≡ row.key
-  pub behind : (prior : ℕ) (cell : Cell) → pointer ≡ Behind prior → cells prior ≡ Some cell → row_key_of schema new ≡ row_key_of schema (segment_in prior cell)
+  pub behind : (prior : ℕ) (cell : Cell) → pointer ≡ Behind prior → cells prior ≡ Some cell
+      → row_key_of schema new ≡ row_key_of schema (segment_in prior cell)
   pub rising : roots_rise schema (heads_in trees) ≡ true
   pub chained : (prior : ℕ) → pointer ≡ Behind prior → schema.phdam ≡ true
   pub single : schema.phdam ≡ false → leads_in schema pointer cells rows ≡ 0
@@ -69,7 +61,8 @@ pub record ChangedSides : Type 0 where
       → IsWalked schema place cells rows trees → IsInSide schema pointer cells rows trees → 0 < new.home → cells new.home ≡ None
       → code_behind schema.types pointer (seen schema.phdam cells) ≡ Some new.code
       → (new.code ≡ 1 → FitsAsRoot schema place cells rows pointer new (with_segment pointer new (kinds_of schema new) trees))
-      → now new.home ≡ Some (new_cell new (kinds_of schema new) (leads_in schema pointer cells rows)) → SetsPointer pointer new.home cells now (λ home. home ≢ new.home)
+      → now new.home ≡ Some (new_cell new (kinds_of schema new) (leads_in schema pointer cells rows))
+      → SetsPointer pointer new.home cells now (λ home. home ≢ new.home)
       → IsWalked schema place now (set_in_root_rows pointer new.home rows) (with_segment pointer new (kinds_of schema new) trees)
   -- a pointer was set past a segment, whose cell and those below it are gone or copied
   pub cuts : (schema : Schema) (place : ℕ) (cells now : ℕ → Option Cell) (rows : List RootRow) (trees : Chains) (pointer : Pointer) (cut : Cell)
@@ -80,15 +73,15 @@ pub record ChangedSides : Type 0 where
       → IsWalked schema place now (set_in_root_rows pointer cut.twin rows) (without_segment pointer trees)
   -- the content of a cell was replaced, by one with its key where it is a root
   pub replaces : (schema : Schema) (place : ℕ) (cells now : ℕ → Option Cell) (rows : List RootRow) (trees : Chains) (home : ℕ) (content : List ℕ)
-      → IsWalked schema place cells rows trees → now home ≡ option_map (set_content content) (cells home) → ((other : ℕ) → other ≢ home → now other ≡ cells other)
-      → ((cell : Cell) → cells home ≡ Some cell → cell.code ≡ 1 → key_of schema (segment_in home (set_content content cell)) ≡ key_of schema (segment_in home cell))
+      → IsWalked schema place cells rows trees → now home ≡ option_map (set_content content) (cells home) → ((other : ℕ) → other ≢ home
+      → now other ≡ cells other)
+      → ((cell : Cell) → cells home ≡ Some cell → cell.code ≡ 1
+      → key_of schema (segment_in home (set_content content cell)) ≡ key_of schema (segment_in home cell))
       → IsWalked schema place now rows (with_content_at home content trees)
   -- a row that leads nowhere came, or went
-  pub row_comes : (schema : Schema) (place : ℕ) (cells : ℕ → Option Cell) (rows : List RootRow) (trees : Chains) (at : ℕ) (key : List ℕ) → IsWalked schema place cells rows trees
+  pub row_comes : (schema : Schema) (place : ℕ) (cells : ℕ → Option Cell) (rows : List RootRow) (trees : Chains) (at : ℕ) (key : List ℕ)
+      → IsWalked schema place cells rows trees
       → at ≤ length rows → IsWalked schema place cells (insert rows at (record { key = key; home = 0 })) (with_row at trees)
-  pub row_goes : (schema : Schema) (place : ℕ) (cells : ℕ → Option Cell) (rows : List RootRow) (trees : Chains) (at : ℕ) (row : RootRow) → IsWalked schema place cells rows trees
+  pub row_goes : (schema : Schema) (place : ℕ) (cells : ℕ → Option Cell) (rows : List RootRow) (trees : Chains) (at : ℕ) (row : RootRow)
+      → IsWalked schema place cells rows trees
       → slice_get rows at ≡ Some row → row.home ≡ 0 → IsWalked schema place cells (remove rows at) (without_row at trees)
-  -- where each row leads somewhere it is a side, and a side is so
-  pub side : (schema : Schema) (place : ℕ) (cells : ℕ → Option Cell) (rows : List RootRow) (trees : Chains) → IsWalked schema place cells rows trees
-      → list_all (λ row. nat_lt 0 row.home) rows ≡ true → IsSideOf schema place cells rows trees
-  pub walked : (schema : Schema) (place : ℕ) (cells : ℕ → Option Cell) (rows : List RootRow) (trees : Chains) → IsSideOf schema place cells rows trees → IsWalked schema place cells rows trees

@@ -27,7 +27,8 @@ listed (side ∷ sides) = list_in None side.trees ++ listed sides
 abbrev pub all_before : Schema → List Occurrence → List Occurrence → Bool
 all_before schema roots others = list_all (λ a. list_all (λ b. is_lt (root_cmp schema (key_of schema a) (key_of schema b))) others) roots
 
--- A side stands before one of a later partition. Of one partition the output stands before the input, whose roots are behind all of the output's, since the cursor is between.
+-- A side stands before one of a later partition. Of one partition the output stands before the input, whose roots are behind all of the output's,
+-- since the cursor is between.
 abbrev pub precedes : Schema → PlacedSide → PlacedSide → Bool
 precedes schema a b = nat_lt a.place b.place || a.place == b.place && all_before schema (heads_in a.trees) (heads_in b.trees)
 

@@ -16,6 +16,7 @@
 #![tactic(auto)]
 
 mod examples;
+mod firsts;
 mod in_records;
 mod listed;
 mod named;
@@ -29,7 +30,8 @@ mod side_changes;
 mod volume;
 mod walk;
 
-pub use examples::{broken_sides, example_sides};
+pub use examples::{broken_sides, changes_make_sides, example_sides, sides_make_forests};
+pub use firsts::{first_children_are_inserted, first_roots_are_inserted, later_roots_are_inserted};
 pub use in_records::{entries_hang_in_records, sides_list_their_cells};
 pub use listed::{
     cuts_are_spans, new_segments_are_listed, new_twins_stand_behind_spans,

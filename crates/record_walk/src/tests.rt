@@ -5,6 +5,8 @@ use crate::*;
 fn the_laws_can_be_called(_rt: HostRuntime) {
     example_sides();
     broken_sides();
+    changes_make_sides();
+    sides_make_forests();
     trees_are_unique();
     met_cells_stand();
     changes_outside_leave();
@@ -26,6 +28,9 @@ fn the_laws_can_be_called(_rt: HostRuntime) {
     entries_hang_in_records();
     sides_list_their_cells();
     changed_sides();
+    first_children_are_inserted();
+    first_roots_are_inserted();
+    later_roots_are_inserted();
     changes_of_one_side();
     sides_have_one_proof();
     sides_are_forests();
