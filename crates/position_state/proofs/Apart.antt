@@ -117,7 +117,7 @@ before_each P at (x ∷ xs) h = by (is_at at x) (before_each P at xs h.1)
     by true rest = tt
     by false rest = (h.0, rest)
 
-last_each : (P : Spot → Type 0) (p : Spot → Bool) (xs : List Spot) (o : Option Spot) → IfSome o P → AllByRecursion P xs → IfSome (last_or o (filter p xs)) P
+pub last_each : (P : Spot → Type 0) (p : Spot → Bool) (xs : List Spot) (o : Option Spot) → IfSome o P → AllByRecursion P xs → IfSome (last_or o (filter p xs)) P
 last_each P p [] o h k = h
 last_each P p (x ∷ xs) o h k = by (p x) (λ o h. last_each P p xs o h k.1)
   where

@@ -37,7 +37,7 @@ use Rattle.position_state.proofs.Climbing.{place_at, deletion_at}
 -- ---- rows and places
 
 -- a place of the view is that of a row under the root that it names
-found_under : (types : List SegType) (name : Ilk) (root : List ℕ) (entry : Option (List ℕ)) (path rows : List Row) (s : Spot) → find (is_at (At name root entry)) (shown types path rows) ≡ Some s
+pub found_under : (types : List SegType) (name : Ilk) (root : List ℕ) (entry : Option (List ℕ)) (path rows : List Row) (s : Spot) → find (is_at (At name root entry)) (shown types path rows) ≡ Some s
     → root ≡ root_named s.at → list_any (λ p. same_name p.1.name name && bytes_eq (root_key_of types p.0) root) (with_paths (row_level types) path rows) ≡ true
 found_under types name root entry path [] s f e = absurd (true≢false (ap is_none f))
 found_under types name root entry path (row ∷ rows) s f e = by (is_at (At name root entry) (plain_element types next row)) refl (found_under types name root entry next rows s) f

@@ -5,6 +5,7 @@ pub mod Deleting
 pub mod KeepLaws
 pub mod Leaving
 pub mod Looking
+pub mod PlaceLaws
 pub mod Segments
 pub mod Shown
 pub mod Sorting

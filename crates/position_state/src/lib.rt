@@ -24,7 +24,7 @@ mod session;
 mod spot;
 mod walk;
 
-pub use laws::{anchors_stand, anchors_stay, sessions_stay};
+pub use laws::{anchors_are_of_both, anchors_stand, anchors_stay, rows_are_places, sessions_stay};
 pub use list_walk::ListWalk;
 pub use session::{Anchor, Session};
 pub use spot::{Change, Spot};
