@@ -25,7 +25,7 @@ use Rattle.position_state.specs.KeepLaws.{AnchorsStay, AnchorsStand, SessionsSta
 
 -- ---- places, as equations
 
-entry_is : (a b : Option (List ℕ)) → same_entry a b ≡ true → a ≡ b
+pub entry_is : (a b : Option (List ℕ)) → same_entry a b ≡ true → a ≡ b
 entry_is None None h = refl
 entry_is None (Some b) h = absurd (true≢false (sym h))
 entry_is (Some a) None h = absurd (true≢false (sym h))
@@ -48,7 +48,7 @@ abbrev shown : Spot → Option Spot → Spot
 shown d None = d
 shown d (Some spot) = spot
 
-found_any : (p : Spot → Bool) (view : List Spot) (s : Spot) → find p view ≡ Some s → list_any p view ≡ true
+pub found_any : (p : Spot → Bool) (view : List Spot) (s : Spot) → find p view ≡ Some s → list_any p view ≡ true
 found_any p [] s f = absurd (true≢false (ap is_none f))
 found_any p (x ∷ view) s f = by (p x) (found_any p view s) f
   where
@@ -56,7 +56,7 @@ found_any p (x ∷ view) s f = by (p x) (found_any p view s) f
     by true rest e = refl
     by false rest e = rest e
 
-found_passes : (p : Spot → Bool) (view : List Spot) (s : Spot) → find p view ≡ Some s → p s ≡ true
+pub found_passes : (p : Spot → Bool) (view : List Spot) (s : Spot) → find p view ≡ Some s → p s ≡ true
 found_passes p [] s f = absurd (true≢false (ap is_none f))
 found_passes p (x ∷ view) s f = by (p x) refl (found_passes p view s) f
   where
@@ -65,7 +65,7 @@ found_passes p (x ∷ view) s f = by (p x) refl (found_passes p view s) f
     by false t rest e = rest e
 
 -- a place of a view is that of the element that is found
-place_found : (view : List Spot) (name : Ilk) (root : List ℕ) (entry : Option (List ℕ)) → is_place_of view (At name root entry) ≡ true
+pub place_found : (view : List Spot) (name : Ilk) (root : List ℕ) (entry : Option (List ℕ)) → is_place_of view (At name root entry) ≡ true
     → (s : Spot) × (find (is_at (At name root entry)) view ≡ Some s) × (At name root entry ≡ s.at)
 place_found view name root entry h = by (find (is_at (At name root entry)) view) refl h
   where
@@ -77,7 +77,7 @@ place_found view name root entry h = by (find (is_at (At name root entry)) view)
 -- ---- the last that is kept
 
 -- of the elements up to a place the last that passes is the one at it, where that passes
-last_kept : (p : Spot → Bool) (at : Anchor) (view : List Spot) (o : Option Spot) (s : Spot) → find (is_at at) view ≡ Some s → p s ≡ true
+pub last_kept : (p : Spot → Bool) (at : Anchor) (view : List Spot) (o : Option Spot) (s : Spot) → find (is_at at) view ≡ Some s → p s ≡ true
     → last_or o (filter p (all_up_to at view)) ≡ Some s
 last_kept p at [] o s f h = absurd (true≢false (ap is_none f))
 last_kept p at (x ∷ view) o s f h = by (is_at at x) (λ o e. last_kept p at view o s e h) f
@@ -111,7 +111,7 @@ anchors_stay old new (At name root entry) h k = by (place_found old name root en
         ∙ sym e
 
 -- the last of those that pass is one that passes, or there is none
-last_passes : (p : Spot → Bool) (view : List Spot) (o : Option Spot) → option_map_or p o true ≡ true → option_map_or p (last_or o (filter p view)) true ≡ true
+pub last_passes : (p : Spot → Bool) (view : List Spot) (o : Option Spot) → option_map_or p o true ≡ true → option_map_or p (last_or o (filter p view)) true ≡ true
 last_passes p [] o h = h
 last_passes p (x ∷ view) o h = by (p x) refl (λ o h. last_passes p view o h)
   where
@@ -134,7 +134,7 @@ anchors_stand old new at = by (last_or None (filter there (up_to at old))) (last
 -- ---- sessions
 
 -- a row that is on the list has no new name
-under_known : (types : List SegType) (name : Ilk) (root : List ℕ) (path rows : List Row)
+pub under_known : (types : List SegType) (name : Ilk) (root : List ℕ) (path rows : List Row)
     → list_any (λ p. same_name p.1.name name && bytes_eq (root_key_of types p.0) root) (with_paths (row_level types) path rows) ≡ true → is_new_name rows name ≡ false
 under_known types name root path [] h = absurd (true≢false (sym h))
 under_known types name root path (row ∷ rows) h =

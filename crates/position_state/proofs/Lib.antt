@@ -1,4 +1,12 @@
+pub mod Apart
+pub mod Climbing
+pub mod Cuts
+pub mod Deleting
 pub mod KeepLaws
+pub mod Leaving
+pub mod Looking
+pub mod PlaceLaws
 pub mod Segments
+pub mod Shown
 pub mod Sorting
 pub mod Steps

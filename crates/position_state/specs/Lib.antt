@@ -1,3 +1,4 @@
+pub mod AfterChange
 pub mod Entries
 pub mod Keep
 pub mod KeepLaws

@@ -1,6 +1,7 @@
 //! Sessions and what they see: where a session stands in its view of the list, and what a change leaves of it.
 //!
 //! - `session`: anchors and sessions, and their copies;
+//! - `kept`: what the change of another session leaves of one, by looks;
 //! - `laws`: what the definitions of views and sessions keep;
 //! - `spot`: what a look shows of a segment, and the changes that calls make;
 //! - `walk`: `Walk`, looks at a view, whatever it stands on;
@@ -12,6 +13,7 @@
 #![tactic(auto)]
 
 mod elements;
+mod kept;
 mod laws;
 mod list_entries;
 mod list_view;
@@ -22,7 +24,7 @@ mod session;
 mod spot;
 mod walk;
 
-pub use laws::{anchors_stand, anchors_stay, sessions_stay};
+pub use laws::{anchors_are_of_both, anchors_stand, anchors_stay, rows_are_places, sessions_stay};
 pub use list_walk::ListWalk;
 pub use session::{Anchor, Session};
 pub use spot::{Change, Spot};

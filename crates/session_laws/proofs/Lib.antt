@@ -1,0 +1,3 @@
+pub mod PathParts
+pub mod Surviving
+pub mod Standing
