@@ -1,0 +1,8 @@
+use Rattle.eps_pointers.proofs.Bytes.{eps_back, ile_back}
+use Rattle.eps_pointers.proofs.laws.bytes_read_back.Goals as goal
+
+pub returns-clause-pointer_bytes : goal.returns-clause-pointer_bytes
+returns-clause-pointer_bytes c = eps_back
+
+pub returns-clause-entry_bytes : goal.returns-clause-entry_bytes
+returns-clause-entry_bytes c = ile_back
