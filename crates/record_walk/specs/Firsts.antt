@@ -25,8 +25,8 @@ NextStaysBehind schema pointer cells firsts new = (cell : Cell) → 0 < leads_to
 
 -- as first child of its type, before a twin that stays behind it: the list's twins stand in order, so no other has to be looked at
 abbrev pub FirstChildrenAreInserted : Type 0
-FirstChildrenAreInserted = (schema : Schema) (cells : ℕ
-    → Option Cell) (firsts : List ℕ) (trees : Chains) (above place : ℕ) (cell : Cell) (new : Occurrence) (kinds : ℕ)
+FirstChildrenAreInserted =
+    (schema : Schema) (cells : ℕ → Option Cell) (firsts : List ℕ) (trees : Chains) (above place : ℕ) (cell : Cell) (new : Occurrence) (kinds : ℕ)
     → AreRecords schema cells firsts trees → IsIn (Below above place) cells firsts trees → all_pairs names_apart (rows_of (list_in None trees)) ≡ true
     → twins_rise schema (rows_of (list_in None trees)) ≡ true → cells above ≡ Some cell → slice_get (child_codes schema.types cell.code) place ≡ Some new.code
     → NextStaysBehind schema (Below above place) cells firsts new
@@ -36,8 +36,8 @@ FirstChildrenAreInserted = (schema : Schema) (cells : ℕ
 -- as a root at the head of a row, where all roots rise with it
 abbrev pub FirstRootsAreInserted : Type 0
 FirstRootsAreInserted = (schema : Schema) (trees : Chains) (at : ℕ) (new : Occurrence) (kinds : ℕ) → are_roots schema.types trees ≡ true
-    → at < length (firsts_of trees)
-    → new.code ≡ 1 → roots_rise schema (heads_in (with_segment (Root at) new kinds trees)) ≡ true
+    → at < length (firsts_of trees) → new.code ≡ 1
+    → roots_rise schema (heads_in (with_segment (Root at) new kinds trees)) ≡ true
     → rows_of (list_in None (with_segment (Root at) new kinds trees)) ≡ inserted schema (rows_of (list_in None trees)) (placed None new).row
 
 -- in PHDAM as a root behind another, where all roots rise with it

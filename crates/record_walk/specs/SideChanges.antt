@@ -36,15 +36,13 @@ segment_in home cell = record { home = home; code = cell.code; name = cell.name;
 
 -- A new root belongs to the partition, has the key of its row, and stands in order among the roots. Behind a root it has that root's row. In PHIDAM a
 -- row leads to one root.
-pub record FitsAsRoot (schema : Schema) (place : ℕ) (cells : ℕ
-    → Option Cell) (rows : List RootRow) (pointer : Pointer) (new : Occurrence) (trees : Chains) : Type 0 where
+pub record FitsAsRoot (schema : Schema) (place : ℕ) (cells : ℕ → Option Cell) (rows : List RootRow) (at : Pointer) (new : Occurrence) (trees : Chains) : Type 0 where
   pub belongs : belongs schema place new ≡ true
-  pub at_head : (at : ℕ) (row : RootRow) → pointer ≡ Root at → slice_get rows at ≡ Some row → row_key_of schema new ≡ row.key
-  pub behind : (prior : ℕ) (cell : Cell) → pointer ≡ Behind prior → cells prior ≡ Some cell
-      → row_key_of schema new ≡ row_key_of schema (segment_in prior cell)
+  pub at_head : (k : ℕ) (row : RootRow) → at ≡ Root k → slice_get rows k ≡ Some row → row_key_of schema new ≡ row.key
+  pub behind : (prior : ℕ) (cell : Cell) → at ≡ Behind prior → cells prior ≡ Some cell → row_key_of schema new ≡ row_key_of schema (segment_in prior cell)
   pub rising : roots_rise schema (heads_in trees) ≡ true
-  pub chained : (prior : ℕ) → pointer ≡ Behind prior → schema.phdam ≡ true
-  pub single : schema.phdam ≡ false → leads_in schema pointer cells rows ≡ 0
+  pub chained : (prior : ℕ) → at ≡ Behind prior → schema.phdam ≡ true
+  pub single : schema.phdam ≡ false → leads_in schema at cells rows ≡ 0
 
 -- the pointer was set in its cell, and these other cells stay
 pub record SetsPointer (pointer : Pointer) (to : ℕ) (cells now : ℕ → Option Cell) (stay : ℕ → Type 0) : Type 0 where
@@ -54,6 +52,11 @@ pub record SetsPointer (pointer : Pointer) (to : ℕ) (cells now : ℕ → Optio
 -- so many child types as a segment's type has
 abbrev pub kinds_of : Schema → Occurrence → ℕ
 kinds_of schema new = length (child_codes schema.types new.code)
+
+-- where a root stands at the home, the content has its key
+abbrev pub KeepsRootKey : Schema → (ℕ → Option Cell) → ℕ → List ℕ → Type 0
+KeepsRootKey schema cells home content = (cell : Cell) → cells home ≡ Some cell → cell.code ≡ 1
+    → key_of schema (segment_in home (set_content content cell)) ≡ key_of schema (segment_in home cell)
 
 pub record ChangedSides : Type 0 where
   -- a cell came to a free home, and a pointer was set to it
@@ -73,15 +76,13 @@ pub record ChangedSides : Type 0 where
       → IsWalked schema place now (set_in_root_rows pointer cut.twin rows) (without_segment pointer trees)
   -- the content of a cell was replaced, by one with its key where it is a root
   pub replaces : (schema : Schema) (place : ℕ) (cells now : ℕ → Option Cell) (rows : List RootRow) (trees : Chains) (home : ℕ) (content : List ℕ)
-      → IsWalked schema place cells rows trees → now home ≡ option_map (set_content content) (cells home) → ((other : ℕ) → other ≢ home
-      → now other ≡ cells other)
-      → ((cell : Cell) → cells home ≡ Some cell → cell.code ≡ 1
-      → key_of schema (segment_in home (set_content content cell)) ≡ key_of schema (segment_in home cell))
+      → IsWalked schema place cells rows trees → now home ≡ option_map (set_content content) (cells home)
+      → ((other : ℕ) → other ≢ home → now other ≡ cells other) → KeepsRootKey schema cells home content
       → IsWalked schema place now rows (with_content_at home content trees)
   -- a row that leads nowhere came, or went
   pub row_comes : (schema : Schema) (place : ℕ) (cells : ℕ → Option Cell) (rows : List RootRow) (trees : Chains) (at : ℕ) (key : List ℕ)
-      → IsWalked schema place cells rows trees
-      → at ≤ length rows → IsWalked schema place cells (insert rows at (record { key = key; home = 0 })) (with_row at trees)
+      → IsWalked schema place cells rows trees → at ≤ length rows
+      → IsWalked schema place cells (insert rows at (record { key = key; home = 0 })) (with_row at trees)
   pub row_goes : (schema : Schema) (place : ℕ) (cells : ℕ → Option Cell) (rows : List RootRow) (trees : Chains) (at : ℕ) (row : RootRow)
-      → IsWalked schema place cells rows trees
-      → slice_get rows at ≡ Some row → row.home ≡ 0 → IsWalked schema place cells (remove rows at) (without_row at trees)
+      → IsWalked schema place cells rows trees → slice_get rows at ≡ Some row → row.home ≡ 0
+      → IsWalked schema place cells (remove rows at) (without_row at trees)

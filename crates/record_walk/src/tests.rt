@@ -1,4 +1,24 @@
+ghost use Rattle.record_walk.specs.Examples.{cells_in, example_cells, two_rows};
+ghost use Rattle.record_walk.specs.OneProof.{IsSide-prop};
+ghost use Rattle.record_walk.specs.Side.{IsSide};
+
 use crate::*;
+use hal_schema::Schema;
+
+// A type that keeps it that cells and rows are a side of its schema.
+#[derive(Drop)]
+struct OpenSide {
+    schema: Schema,
+    ghost side: { IsSide schema 0 (cells_in (example_cells 144)) two_rows } by { IsSide-prop schema 0 (cells_in (example_cells 144)) two_rows },
+}
+
+impl OpenSide {
+    fn schema(&self) -> &Schema
+        ensures { IsSide result.now 0 (cells_in (example_cells 144)) two_rows }
+    {
+        &self.schema
+    }
+}
 
 // The laws are no more than their contracts; this calls each of them once.
 #[test]
