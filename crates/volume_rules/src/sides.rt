@@ -39,7 +39,8 @@ pub fn sides_act_alike()
     insertions_stay_within();
 }
 
-/// Insertion, replacement, deletion, START, PAUSE, RESUME, a heal and the switch move the rows so that rule 5 is kept.
+/// Insertion, replacement, deletion, START, PAUSE, RESUME, a heal, a unit and the switch move the rows so that rule 5 is
+/// kept.
 pub fn events_move_rows()
     ensures { EventsMoveRows }
 {}
