@@ -20,20 +20,16 @@ use Rattle.volume_rules.specs.Volume.{RowsStand, stands_in}
 use Rattle.volume_rules.specs.Sides.{is_alike, is_listed, is_met, row_follows, OwesMeeting, RowsFollow}
 use Rattle.volume_rules.specs.SideEvents.{RowsAreCopied, home_of, replaced_rows, rows_without, GoesIn, EventsMoveRows}
 use Rattle.volume_rules.proofs.Homing.{home_is, home_itself, numbers_differ}
-use Rattle.volume_rules.proofs.SidesKept.{at_row}
+use Rattle.volume_rules.proofs.SidesKept.{at_row, all_weaker}
 
 -- ---- lists
 
-all_from : (strong weak : Homed → Bool) → ((r : Homed) → strong r ≡ true → weak r ≡ true) → (rows : List Homed) → list_all strong rows ≡ true → list_all weak rows ≡ true
-all_from strong weak so [] h = refl
-all_from strong weak so (r ∷ rows) h = let p = and_parts (strong r) (list_all strong rows) h in and_from (weak r) (list_all weak rows) (so r p.0) (all_from strong weak so rows p.1)
-
 -- each row is among the rows, by a test that each passes with itself
-any_self : (test : Homed → Homed → Bool) → ((r : Homed) → test r r ≡ true) → (rows : List Homed) → list_all (λ r. list_any (λ o. test o r) rows) rows ≡ true
+pub any_self : (test : Homed → Homed → Bool) → ((r : Homed) → test r r ≡ true) → (rows : List Homed) → list_all (λ r. list_any (λ o. test o r) rows) rows ≡ true
 any_self test self [] = refl
 any_self test self (x ∷ rows) =
     and_from (test x x || list_any (λ o. test o x) rows) (list_all (λ r. test x r || list_any (λ o. test o r) rows) rows) (or_left (test x x) (list_any (λ o. test o x) rows) (self x))
-    (all_from (λ r. list_any (λ o. test o r) rows) (λ r. test x r || list_any (λ o. test o r) rows) (λ r h. or_right (test x r) (list_any (λ o. test o r) rows) h) rows (any_self test self rows))
+    (all_weaker (λ r. list_any (λ o. test o r) rows) (λ r. test x r || list_any (λ o. test o r) rows) (λ r h. or_right (test x r) (list_any (λ o. test o r) rows) h) rows (any_self test self rows))
 
 alike_itself : (a : Row) → is_alike a a ≡ true
 alike_itself a =
@@ -65,7 +61,7 @@ any_filtered keep test so (r ∷ rows) h = by (test r) (keep r) refl refl h (any
     by false true e f h rest = or_right (test r) (list_any test (filter keep rows)) (rest h)
     by false false e f h rest = rest h
 
-pairs_filtered : (keep : Homed → Bool) (test : Homed → Homed → Bool) (rows : List Homed) → all_pairs test rows ≡ true → all_pairs test (filter keep rows) ≡ true
+pub pairs_filtered : (keep : Homed → Bool) (test : Homed → Homed → Bool) (rows : List Homed) → all_pairs test rows ≡ true → all_pairs test (filter keep rows) ≡ true
 pairs_filtered keep test [] h = refl
 pairs_filtered keep test (r ∷ rows) h =
     let p = and_parts (list_all (test r) rows) (all_pairs test rows) h in by (keep r) (all_filtered keep (test r) (test r) (λ x k t. t) rows p.0) (pairs_filtered keep test rows p.1)
@@ -223,7 +219,7 @@ pairs_with : (front back : List Homed) (row : Homed) → all_pairs (λ a b. not 
     → all_pairs (λ (a b : Homed). not (a.addr == b.addr)) (front ++ row ∷ back) ≡ true
 pairs_with [] back row h apart =
     and_from (list_all (λ b. not (row.addr == b.addr)) back) (all_pairs (λ a b. not (a.addr == b.addr)) back)
-    (all_from (λ r. not (r.addr == row.addr)) (λ b. not (row.addr == b.addr)) (λ r k. turned_apart r.addr row.addr k) back apart) h
+    (all_weaker (λ r. not (r.addr == row.addr)) (λ b. not (row.addr == b.addr)) (λ r k. turned_apart r.addr row.addr k) back apart) h
 pairs_with (r ∷ front) back row h apart =
     let p = and_parts (list_all (λ b. not (r.addr == b.addr)) (front ++ back)) (all_pairs (λ a b. not (a.addr == b.addr)) (front ++ back)) h in
     let q = and_parts (not (r.addr == row.addr)) (list_all (λ r. not (r.addr == row.addr)) (front ++ back)) apart in
@@ -257,7 +253,7 @@ module _ (view : View) (kept : RowsStand view) (home : Home) (s : Segment) (rows
 
   apart_from : list_all (λ r. not (r.addr == g.row.addr)) (view.rows home.number) ≡ true
   apart_from =
-      all_from (stands_in view home.number) (λ r. not (r.addr == g.row.addr)) (λ r stand. differs r stand (r.addr == g.row.addr) refl) (view.rows home.number) (kept.stand home.number)
+      all_weaker (stands_in view home.number) (λ r. not (r.addr == g.row.addr)) (λ r stand. differs r stand (r.addr == g.row.addr) refl) (view.rows home.number) (kept.stand home.number)
     where
       differs : (r : Homed) → stands_in view home.number r ≡ true → (t : Bool) → (r.addr == g.row.addr) ≡ t → not t ≡ true
       differs r stand false e = refl
@@ -378,7 +374,7 @@ module _ (view : View) (kept : RowsStand view) (moves : List Move) (rows : ℕ �
       let out = apart_numbers number view.state.number e in
       let off = apart_numbers number (view.state.number + 1) f in
       subst (λ (l : List Homed). list_all (λ r. row_follows view number r (fate_in moves (home_of number r))) l ≡ true) (sym (c.others number out off))
-      (all_from (λ r. is_listed (view.rows number) r.addr r.row) (λ r. row_follows view number r (fate_in moves (home_of number r)))
+      (all_weaker (λ r. is_listed (view.rows number) r.addr r.row) (λ r. row_follows view number r (fate_in moves (home_of number r)))
       (λ r listed.
       subst (λ (f : Fate). row_follows view number r f ≡ true)
       (sym (stays_unmoved view moves c.each (home_of number r) off (unmoved_elsewhere view moves c.each (home_of number r) out))) listed) (view.rows number) (listed_self (view.rows number)))

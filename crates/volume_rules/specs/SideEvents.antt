@@ -2,13 +2,14 @@
 use Rattle.std.specs.Prelude.{◌≡◌, ◌≢◌, ℕ, ◌+◌, ◌==◌, Bool, true, not, if◌then◌else◌, List, ◌∷◌, ◌++◌, map, filter, None}
 use Rattle.std.specs.List.{list_all}
 use Rattle.hal_base.specs.declared.place.Cursor.{Cursor}
+use Rattle.hal_schema.specs.declared.schema.Schema.{Schema}
 use Rattle.hal_schema.specs.Forest.{all_pairs}
 use Rattle.hal_base.specs.declared.place.PartState.{PartState}
 use Rattle.hal_schema.specs.Span.{with_content}
 use Rattle.volume_rules.specs.View.{Home, Homed, Segment, View, same_home}
 use Rattle.volume_rules.specs.Events.{among, insertion, replacement, deletion, turned, switch, IsEmptied, Move, fate_in, is_moved, may_move, unit}
 use Rattle.volume_rules.specs.Volume.{RowsStand, is_segment_of}
-use Rattle.volume_rules.specs.Sides.{is_met, row_follows, RowsFollow}
+use Rattle.volume_rules.specs.Sides.{is_met, row_follows, RowsFollow, OrderFollows}
 
 abbrev pub home_of : ℕ → Homed → Home
 home_of number r = record { number = number; addr = r.addr }
@@ -59,3 +60,12 @@ pub record RowsFollowEvents (view : View) : Type 0 where
 
 abbrev pub EventsMoveRows : Type 0
 EventsMoveRows = (view : View) → RowsStand view → RowsFollowEvents view
+
+-- where no row comes and none changes, each two rows stood so before
+pub record OrderFollowsEvents (schema : Schema) (place : ℕ) (view : View) : Type 0 where
+  pub turn : (state : PartState) → OrderFollows schema place view (turned view state)
+  pub delete : (homes : List Home) → OrderFollows schema place view (deletion view homes (rows_without view homes))
+  pub switched : OrderFollows schema place view (switch view)
+
+abbrev pub EventsKeepOrder : Type 0
+EventsKeepOrder = (schema : Schema) (place : ℕ) (view : View) → OrderFollowsEvents schema place view
