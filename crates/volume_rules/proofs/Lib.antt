@@ -9,6 +9,7 @@ pub mod Homing
 pub mod Leading
 pub mod Listed
 pub mod Names
+pub mod OrderEvents
 pub mod Passing
 pub mod Pointing
 pub mod Reading

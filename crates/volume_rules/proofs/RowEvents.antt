@@ -1,10 +1,12 @@
 -- The rows of the sides follow the events.
-use Rattle.std.proofs.Common.{◌≡◌, ◌≢◌, ℕ, ◌==◌, Bool, true, false, ◌&&◌, ◌||◌, cond, not, List, [], ◌∷◌, ◌++◌, map, None, Some, ◌⊎◌, inl, inr, refl, sym, ap, subst, ◌∙◌}
-use Rattle.std.specs.Prelude.{filter}
+use Rattle.std.proofs.Common.{◌≡◌, ◌≢◌, ℕ, ◌==◌, Bool, true, false, ◌&&◌, ◌||◌, cond, not, List, [], ◌∷◌, ◌++◌, map, None, Some, ◌⊎◌, inl, inr, refl, sym, ap, subst, ◌∙◌, arith}
+use Rattle.std.specs.Prelude.{◌+◌, filter, is_none}
+use Rattle.std.specs.Option.{option_map_or}
 use Rattle.std.specs.List.{list_all, list_any}
 use Rattle.std.specs.Str.{bytes_eq}
-use Rattle.std.proofs.lemmas.Bool.{and_parts, and_from, eqb-true, eq-eqb, or_left, or_right, not_from_false}
+use Rattle.std.proofs.lemmas.Bool.{and_parts, and_from, eqb-true, eq-eqb, or_left, or_right, or_parts, or_from, not_from_false}
 use Rattle.std.proofs.lemmas.Slice.Eq.{bytes_eq-Decides}
+use Rattle.hal_base.specs.declared.place.Cursor.{Cursor}
 use Rattle.hal_base.specs.declared.place.PartState.{PartState}
 use Rattle.hal_schema.specs.declared.row.Row.{Row}
 use Rattle.hal_schema.specs.Forest.{all_pairs}
@@ -12,26 +14,22 @@ use Rattle.hal_schema.specs.Row.{same_name}
 use Rattle.hal_schema.specs.Span.{with_content}
 use Rattle.hal_schema.proofs.RowNames.{name_from}
 use Rattle.volume_rules.specs.View.{Home, Homed, Segment, View, same_home}
-use Rattle.volume_rules.specs.Delta.{Stays, Dropped, Rewritten, Fresh}
-use Rattle.volume_rules.specs.Events.{among, insertion, replacement, deletion, turned, switch, IsEmptied}
+use Rattle.volume_rules.specs.Delta.{Delta, Fate, Stays, Dropped, Rewritten, Fresh, Moved, Left}
+use Rattle.volume_rules.specs.Events.{among, insertion, replacement, deletion, turned, switch, IsEmptied, Move, fate_in, is_moved, may_move, unit}
 use Rattle.volume_rules.specs.Volume.{RowsStand, stands_in}
 use Rattle.volume_rules.specs.Sides.{is_alike, is_listed, is_met, row_follows, OwesMeeting, RowsFollow}
-use Rattle.volume_rules.specs.SideEvents.{home_of, replaced_rows, rows_without, GoesIn, EventsMoveRows}
-use Rattle.volume_rules.proofs.Homing.{home_is, home_itself}
-use Rattle.volume_rules.proofs.SidesKept.{at_row}
+use Rattle.volume_rules.specs.SideEvents.{RowsAreCopied, home_of, replaced_rows, rows_without, GoesIn, EventsMoveRows}
+use Rattle.volume_rules.proofs.Homing.{home_is, home_itself, numbers_differ}
+use Rattle.volume_rules.proofs.SidesKept.{at_row, all_weaker}
 
 -- ---- lists
 
-all_from : (strong weak : Homed → Bool) → ((r : Homed) → strong r ≡ true → weak r ≡ true) → (rows : List Homed) → list_all strong rows ≡ true → list_all weak rows ≡ true
-all_from strong weak so [] h = refl
-all_from strong weak so (r ∷ rows) h = let p = and_parts (strong r) (list_all strong rows) h in and_from (weak r) (list_all weak rows) (so r p.0) (all_from strong weak so rows p.1)
-
 -- each row is among the rows, by a test that each passes with itself
-any_self : (test : Homed → Homed → Bool) → ((r : Homed) → test r r ≡ true) → (rows : List Homed) → list_all (λ r. list_any (λ o. test o r) rows) rows ≡ true
+pub any_self : (test : Homed → Homed → Bool) → ((r : Homed) → test r r ≡ true) → (rows : List Homed) → list_all (λ r. list_any (λ o. test o r) rows) rows ≡ true
 any_self test self [] = refl
 any_self test self (x ∷ rows) =
     and_from (test x x || list_any (λ o. test o x) rows) (list_all (λ r. test x r || list_any (λ o. test o r) rows) rows) (or_left (test x x) (list_any (λ o. test o x) rows) (self x))
-    (all_from (λ r. list_any (λ o. test o r) rows) (λ r. test x r || list_any (λ o. test o r) rows) (λ r h. or_right (test x r) (list_any (λ o. test o r) rows) h) rows (any_self test self rows))
+    (all_weaker (λ r. list_any (λ o. test o r) rows) (λ r. test x r || list_any (λ o. test o r) rows) (λ r h. or_right (test x r) (list_any (λ o. test o r) rows) h) rows (any_self test self rows))
 
 alike_itself : (a : Row) → is_alike a a ≡ true
 alike_itself a =
@@ -63,7 +61,7 @@ any_filtered keep test so (r ∷ rows) h = by (test r) (keep r) refl refl h (any
     by false true e f h rest = or_right (test r) (list_any test (filter keep rows)) (rest h)
     by false false e f h rest = rest h
 
-pairs_filtered : (keep : Homed → Bool) (test : Homed → Homed → Bool) (rows : List Homed) → all_pairs test rows ≡ true → all_pairs test (filter keep rows) ≡ true
+pub pairs_filtered : (keep : Homed → Bool) (test : Homed → Homed → Bool) (rows : List Homed) → all_pairs test rows ≡ true → all_pairs test (filter keep rows) ≡ true
 pairs_filtered keep test [] h = refl
 pairs_filtered keep test (r ∷ rows) h =
     let p = and_parts (list_all (test r) rows) (all_pairs test rows) h in by (keep r) (all_filtered keep (test r) (test r) (λ x k t. t) rows p.0) (pairs_filtered keep test rows p.1)
@@ -221,7 +219,7 @@ pairs_with : (front back : List Homed) (row : Homed) → all_pairs (λ a b. not 
     → all_pairs (λ (a b : Homed). not (a.addr == b.addr)) (front ++ row ∷ back) ≡ true
 pairs_with [] back row h apart =
     and_from (list_all (λ b. not (row.addr == b.addr)) back) (all_pairs (λ a b. not (a.addr == b.addr)) back)
-    (all_from (λ r. not (r.addr == row.addr)) (λ b. not (row.addr == b.addr)) (λ r k. turned_apart r.addr row.addr k) back apart) h
+    (all_weaker (λ r. not (r.addr == row.addr)) (λ b. not (row.addr == b.addr)) (λ r k. turned_apart r.addr row.addr k) back apart) h
 pairs_with (r ∷ front) back row h apart =
     let p = and_parts (list_all (λ b. not (r.addr == b.addr)) (front ++ back)) (all_pairs (λ a b. not (a.addr == b.addr)) (front ++ back)) h in
     let q = and_parts (not (r.addr == row.addr)) (list_all (λ r. not (r.addr == row.addr)) (front ++ back)) apart in
@@ -255,7 +253,7 @@ module _ (view : View) (kept : RowsStand view) (home : Home) (s : Segment) (rows
 
   apart_from : list_all (λ r. not (r.addr == g.row.addr)) (view.rows home.number) ≡ true
   apart_from =
-      all_from (stands_in view home.number) (λ r. not (r.addr == g.row.addr)) (λ r stand. differs r stand (r.addr == g.row.addr) refl) (view.rows home.number) (kept.stand home.number)
+      all_weaker (stands_in view home.number) (λ r. not (r.addr == g.row.addr)) (λ r stand. differs r stand (r.addr == g.row.addr) refl) (view.rows home.number) (kept.stand home.number)
     where
       differs : (r : Homed) → stands_in view home.number r ≡ true → (t : Bool) → (r.addr == g.row.addr) ≡ t → not t ≡ true
       differs r stand false e = refl
@@ -303,6 +301,120 @@ module _ (view : View) (kept : RowsStand view) (home : Home) (s : Segment) (rows
           (subst (λ (l : List Homed). list_all (λ r. not (r.addr == g.row.addr)) l ≡ true) g.was apart_from)))
       once number false e = subst (λ (l : List Homed). all_pairs (λ (a b : Homed). not (a.addr == b.addr)) l ≡ true) (sym (g.others number (apart_numbers number home.number e))) (kept.once number)
 
+-- ---- a unit
+
+-- the homes of a move
+record Moves (view : View) (m : Move) : Type 0 where
+  from : m.from.number ≡ view.state.number
+  to : m.to.number ≡ view.state.number + 1
+
+moves_of : (view : View) (m : Move) → may_move view m ≡ true → Moves view m
+moves_of view m h =
+    let stands = option_map_or (λ s. not s.copied) (view.segments m.from) false in
+    let a = and_parts (m.from.number == view.state.number && m.to.number == view.state.number + 1 && stands) (is_none (view.segments m.to)) h in
+    let b = and_parts (m.from.number == view.state.number && m.to.number == view.state.number + 1) stands a.0 in
+    let c = and_parts (m.from.number == view.state.number) (m.to.number == view.state.number + 1) b.0 in
+    record { from = eqb-true m.from.number view.state.number c.0; to = eqb-true m.to.number (view.state.number + 1) c.1 }
+
+-- a home that no move leaves, in no generation to which moves lead, stays
+stays_unmoved : (view : View) (moves : List Move) → list_all (may_move view) moves ≡ true → (home : Home) → home.number ≢ view.state.number + 1 → is_moved moves home ≡ false → fate_in moves home ≡ Stays
+stays_unmoved view [] each home other unmoved = refl
+stays_unmoved view (m ∷ moves) each home other unmoved =
+    let p = and_parts (may_move view m) (list_all (may_move view) moves) each in
+    let u = or_parts (same_home home m.from) (is_moved moves home) unmoved in
+    let mm = moves_of view m p.0 in
+    let away : same_home home m.to ≡ false = numbers_differ home m.to (λ e. other (e ∙ mm.to)) in
+    ap (λ (b : Bool). cond b (Left m.to) (cond (same_home home m.to) (Moved m.from) (fate_in moves home))) u.0
+    ∙ ap (λ (b : Bool). cond b (Moved m.from) (fate_in moves home)) away
+    ∙ stays_unmoved view moves p.1 home other u.1
+
+-- no move leaves a home of another generation than the input
+unmoved_elsewhere : (view : View) (moves : List Move) → list_all (may_move view) moves ≡ true → (home : Home) → home.number ≢ view.state.number → is_moved moves home ≡ false
+unmoved_elsewhere view [] each home other = refl
+unmoved_elsewhere view (m ∷ moves) each home other =
+    let p = and_parts (may_move view m) (list_all (may_move view) moves) each in
+    let mm = moves_of view m p.0 in
+    or_from (same_home home m.from) (is_moved moves home) (numbers_differ home m.from (λ e. other (e ∙ mm.from))) (unmoved_elsewhere view moves p.1 home other)
+
+unmoved_of : (b : Bool) → not b ≡ true → b ≡ false
+unmoved_of true h = cc
+unmoved_of false h = refl
+
+-- a home from which nothing moves is met as before, and one to which something moves is met
+meets_moved : (view : View) (d : Delta) (moves : List Move) → list_all (may_move view) moves ≡ true → list_all (λ m. is_met (d.rows (view.state.number + 1)) m.to.addr) moves ≡ true → (home : Home)
+    → (is_moved moves home ≡ false → is_met (view.rows home.number) home.addr ≡ true → is_met (d.rows home.number) home.addr ≡ true) → OwesMeeting view d home (fate_in moves home)
+meets_moved view d [] each come home grow = grow refl
+meets_moved view d (m ∷ moves) each come home grow =
+    let p = and_parts (may_move view m) (list_all (may_move view) moves) each in
+    let q = and_parts (is_met (d.rows (view.state.number + 1)) m.to.addr) (list_all (λ m. is_met (d.rows (view.state.number + 1)) m.to.addr) moves) come in
+    by (same_home home m.from) (same_home home m.to) refl refl q.0 (moves_of view m p.0)
+    (λ e. meets_moved view d moves p.1 q.1 home (λ u. grow (or_from (same_home home m.from) (is_moved moves home) e u)))
+  where
+    by : (a b : Bool) → same_home home m.from ≡ a → same_home home m.to ≡ b → is_met (d.rows (view.state.number + 1)) m.to.addr ≡ true → Moves view m
+        → (same_home home m.from ≡ false → OwesMeeting view d home (fate_in moves home)) → OwesMeeting view d home (cond a (Left m.to) (cond b (Moved m.from) (fate_in moves home)))
+    by true b e f met mm rest = tt
+    by false true e f met mm rest =
+        subst (λ (h : Home). is_met (d.rows h.number) h.addr ≡ true) (sym (home_is home m.to f)) (subst (λ (n : ℕ). is_met (d.rows n) m.to.addr ≡ true) (sym mm.to) met)
+    by false false e f met mm rest = rest e
+
+module _ (view : View) (kept : RowsStand view) (moves : List Move) (rows : ℕ → List Homed) (c : RowsAreCopied view moves rows) where
+  follows_at : (number : ℕ) (a b : Bool) → (number == view.state.number) ≡ a → (number == view.state.number + 1) ≡ b → list_all (λ r. row_follows view number r (fate_in moves (home_of number r))) (rows number) ≡ true
+  follows_at number true b e f =
+      subst (λ (n : ℕ). list_all (λ r. row_follows view n r (fate_in moves (home_of n r))) (rows n) ≡ true) (sym (eqb-true number view.state.number e))
+      (subst (λ (l : List Homed). list_all (λ r. row_follows view view.state.number r (fate_in moves (home_of view.state.number r))) l ≡ true) (sym c.input)
+      (all_filtered (λ r. not (is_moved moves (home_of view.state.number r))) (λ r. is_listed (view.rows view.state.number) r.addr r.row)
+      (λ r. row_follows view view.state.number r (fate_in moves (home_of view.state.number r)))
+      (λ r keep listed.
+      subst (λ (f : Fate). row_follows view view.state.number r f ≡ true)
+      (sym (stays_unmoved view moves c.each (home_of view.state.number r) (λ x. absurd (omega (arith, x))) (unmoved_of (is_moved moves (home_of view.state.number r)) keep))) listed)
+      (view.rows view.state.number) (listed_self (view.rows view.state.number))))
+  follows_at number false true e f =
+      subst (λ (n : ℕ). list_all (λ r. row_follows view n r (fate_in moves (home_of n r))) (rows n) ≡ true) (sym (eqb-true number (view.state.number + 1) f)) c.output
+  follows_at number false false e f =
+      let out = apart_numbers number view.state.number e in
+      let off = apart_numbers number (view.state.number + 1) f in
+      subst (λ (l : List Homed). list_all (λ r. row_follows view number r (fate_in moves (home_of number r))) l ≡ true) (sym (c.others number out off))
+      (all_weaker (λ r. is_listed (view.rows number) r.addr r.row) (λ r. row_follows view number r (fate_in moves (home_of number r)))
+      (λ r listed.
+      subst (λ (f : Fate). row_follows view number r f ≡ true)
+      (sym (stays_unmoved view moves c.each (home_of number r) off (unmoved_elsewhere view moves c.each (home_of number r) out))) listed) (view.rows number) (listed_self (view.rows number)))
+
+  grows : (home : Home) (a b : Bool) → (home.number == view.state.number) ≡ a → (home.number == view.state.number + 1) ≡ b → is_moved moves home ≡ false
+      → is_met (view.rows home.number) home.addr ≡ true → is_met (rows home.number) home.addr ≡ true
+  grows home true b e f unmoved h =
+      let at = eqb-true home.number view.state.number e in
+      subst (λ (n : ℕ). is_met (rows n) home.addr ≡ true) (sym at)
+      (subst (λ (l : List Homed). is_met l home.addr ≡ true) (sym c.input)
+      (any_filtered (λ r. not (is_moved moves (home_of view.state.number r))) (λ r. r.addr == home.addr)
+      (λ r here.
+      (let same : is_moved moves (home_of view.state.number r) ≡ false =
+      (λ i. is_moved moves (record { number = sym at i; addr = eqb-true r.addr home.addr here i })) ∙ unmoved in
+      not_from_false (is_moved moves (home_of view.state.number r)) same)) (view.rows view.state.number)
+      (subst (λ (n : ℕ). is_met (view.rows n) home.addr ≡ true) at h)))
+  grows home false true e f unmoved h =
+      let at = eqb-true home.number (view.state.number + 1) f in
+      subst (λ (n : ℕ). is_met (rows n) home.addr ≡ true) (sym at) (c.stay home.addr (subst (λ (n : ℕ). is_met (view.rows n) home.addr ≡ true) at h))
+  grows home false false e f unmoved h =
+      subst (λ (l : List Homed). is_met l home.addr ≡ true) (sym (c.others home.number (apart_numbers home.number view.state.number e) (apart_numbers home.number (view.state.number + 1) f))) h
+
+  once_at : (number : ℕ) (a b : Bool) → (number == view.state.number) ≡ a → (number == view.state.number + 1) ≡ b → all_pairs (λ a b. not (a.addr == b.addr)) (rows number) ≡ true
+  once_at number true b e f =
+      subst (λ (n : ℕ). all_pairs (λ (a b : Homed). not (a.addr == b.addr)) (rows n) ≡ true) (sym (eqb-true number view.state.number e))
+      (subst (λ (l : List Homed). all_pairs (λ (a b : Homed). not (a.addr == b.addr)) l ≡ true) (sym c.input)
+      (pairs_filtered (λ r. not (is_moved moves (home_of view.state.number r))) (λ a b. not (a.addr == b.addr)) (view.rows view.state.number) (kept.once view.state.number)))
+  once_at number false true e f = subst (λ (n : ℕ). all_pairs (λ (a b : Homed). not (a.addr == b.addr)) (rows n) ≡ true) (sym (eqb-true number (view.state.number + 1) f)) c.once
+  once_at number false false e f =
+      subst (λ (l : List Homed). all_pairs (λ (a b : Homed). not (a.addr == b.addr)) l ≡ true)
+      (sym (c.others number (apart_numbers number view.state.number e) (apart_numbers number (view.state.number + 1) f))) (kept.once number)
+
+  copy : (is_target : ℕ → Bool) (cursor : Cursor) → RowsFollow view (unit is_target view moves cursor rows)
+  copy is_target cursor = record {
+    each = λ number. follows_at number (number == view.state.number) (number == view.state.number + 1) refl refl;
+    met = λ home.
+        meets_moved view (unit is_target view moves cursor rows) moves c.each c.come home (grows home (home.number == view.state.number) (home.number == view.state.number + 1) refl refl);
+    once = λ number. once_at number (number == view.state.number) (number == view.state.number + 1) refl refl;
+  }
+
 pub events_move_rows : EventsMoveRows
 events_move_rows view kept = record {
   turn = turn view kept;
@@ -310,4 +422,5 @@ events_move_rows view kept = record {
   replace = replace view kept;
   delete = delete view kept;
   switched = switched view kept;
+  copy = λ is_target moves cursor rows c. copy view kept moves rows c is_target cursor;
 }

@@ -280,11 +280,11 @@ module _ (schema : Schema) where
       go false e h first more = more h
 
 -- a test that is implied by another, on each two of a list
-all_weaker : (strong weak : Homed → Bool) → ((r : Homed) → strong r ≡ true → weak r ≡ true) → (rows : List Homed) → list_all strong rows ≡ true → list_all weak rows ≡ true
+pub all_weaker : (strong weak : Homed → Bool) → ((r : Homed) → strong r ≡ true → weak r ≡ true) → (rows : List Homed) → list_all strong rows ≡ true → list_all weak rows ≡ true
 all_weaker strong weak so [] h = refl
 all_weaker strong weak so (r ∷ rows) h = let p = and_parts (strong r) (list_all strong rows) h in and_from (weak r) (list_all weak rows) (so r p.0) (all_weaker strong weak so rows p.1)
 
-pairs_weaker : (strong weak : Homed → Homed → Bool) → ((a b : Homed) → strong a b ≡ true → weak a b ≡ true) → (rows : List Homed) → all_pairs strong rows ≡ true → all_pairs weak rows ≡ true
+pub pairs_weaker : (strong weak : Homed → Homed → Bool) → ((a b : Homed) → strong a b ≡ true → weak a b ≡ true) → (rows : List Homed) → all_pairs strong rows ≡ true → all_pairs weak rows ≡ true
 pairs_weaker strong weak so [] h = refl
 pairs_weaker strong weak so (r ∷ rows) h =
     let p = and_parts (list_all (strong r) rows) (all_pairs strong rows) h in

@@ -40,8 +40,8 @@ pub use pointers::{
 };
 pub use rising::rising_goes_on;
 pub use sides::{
-    deltas_keep_rule_4, deltas_keep_rule_5, deltas_keep_rule_7, events_move_rows, sides_act_alike,
-    sides_are_a_forest,
+    deltas_keep_rule_4, deltas_keep_rule_5, deltas_keep_rule_7, events_keep_order,
+    events_move_rows, sides_act_alike, sides_are_a_forest,
 };
 pub use telling::{alike_hold_the_same, holds_one, rules_pass_tests, tests_tell};
 

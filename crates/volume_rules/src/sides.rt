@@ -1,4 +1,4 @@
-ghost use Rattle.volume_rules.specs.SideEvents.{EventsMoveRows};
+ghost use Rattle.volume_rules.specs.SideEvents.{EventsKeepOrder, EventsMoveRows};
 ghost use Rattle.volume_rules.specs.SideForest.{SidesActAlike, SidesAreAForest};
 ghost use Rattle.volume_rules.specs.SideLaws.{DeltasKeepRule4, DeltasKeepRule5, DeltasKeepRule7};
 
@@ -39,7 +39,13 @@ pub fn sides_act_alike()
     insertions_stay_within();
 }
 
-/// Insertion, replacement, deletion, START, PAUSE, RESUME, a heal and the switch move the rows so that rule 5 is kept.
+/// Insertion, replacement, deletion, START, PAUSE, RESUME, a heal, a unit and the switch move the rows so that rule 5 is
+/// kept.
 pub fn events_move_rows()
     ensures { EventsMoveRows }
+{}
+
+/// Deletion, START, PAUSE, RESUME, a heal and the switch leave the order of the rows, so that rule 7 is kept.
+pub fn events_keep_order()
+    ensures { EventsKeepOrder }
 {}

@@ -15,6 +15,7 @@ fn the_laws_can_be_called(_rt: HostRuntime) {
     sides_are_a_forest();
     sides_act_alike();
     events_move_rows();
+    events_keep_order();
     examples_are_kept();
     examples_are_broken();
     example_sides_are_kept();
