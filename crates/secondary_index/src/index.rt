@@ -1,13 +1,14 @@
 // A secondary index, over any shelf.
-ghost use Rattle.std.specs.Prelude.{◌≡◌, ◌<◌, ◌≤◌, ℕ, length, IfOk, IfSome, IsErrOf, IsTrue};
+ghost use Rattle.std.specs.Prelude.{◌≡◌, ◌↔◌, ◌<◌, ◌≤◌, ℕ, length, IfOk, IfSome, IsErrOf, IsTrue};
 ghost use Rattle.hal_base.specs.ShelfCalls.{OnlyReads};
 ghost use Rattle.keyed_sets.specs.Calls.{IsOpened};
-ghost use Rattle.secondary_index.specs.Entries.{index_set, IsShape, BreaksIndex};
+ghost use Rattle.secondary_index.specs.Entries.{index_set, IsShape, BreaksIndex, FitsIndex};
 
+use crate::Entry;
 use crate::lengths::shape_of;
 use hal_base::{SetId, Shelf, StoreFault};
 use hal_schema::Schema;
-use keyed_sets::KeyedSet;
+use keyed_sets::{KeyedSet, RowShape};
 use std::alloc::Global;
 
 /// A secondary index in the pages of its data set: entries sorted by key, each key once. It is opened anew where the shelf
@@ -16,7 +17,9 @@ use std::alloc::Global;
 pub struct Psindex {
     pub(crate) alloc: Global,
     pub(crate) rows: KeyedSet,
-    ghost pointer: { 16 ≤ rows.shape.body },
+    shape: RowShape,
+    ghost shaped: { rows.shape ≡ shape },
+    ghost pointer: { 16 ≤ shape.body },
 }
 
 impl Psindex {
@@ -43,6 +46,14 @@ impl Psindex {
         };
         let shape = shape_of(schema, place);
         let rows = KeyedSet::open(alloc, shelf, set, shape.key, shape.body)?;
-        Ok(Psindex { alloc, rows })
+        Ok(Psindex { alloc, rows, shape })
+    }
+
+    /// Whether an entry's key and root key have the lengths that the definition gives them.
+    pub fn fits(&self, entry: &Entry) -> bool
+        ensures { IsTrue result ↔ FitsIndex self.now.rows entry.now }
+    {
+        entry.key.len() == usize::from(self.shape.key)
+            && entry.root.len() == usize::from(self.shape.body) - 16
     }
 }
