@@ -1,4 +1,10 @@
 //! Tests of the store of cells, and of the cells of a side, over a shelf in memory.
+//!
+//! - `kept.rt`: a store that stays open from call to call;
+//! - `open_side.rt`: a side that stays open from call to call;
+//! - `hanging.rt`: a law: what calls on a side say is what the walk asks for;
+//! - `cells.rt`: tests of the store of cells;
+//! - `sides.rt`: tests of sides.
 #![tactic(auto)]
 
 ghost use Rattle.std.specs.Prelude.{◌≡◌, ◌-◌, ◌<◌, List as ListOf, Some, IfOk, length, slice_get};

@@ -93,9 +93,12 @@ fn table_under<B: Blocks>(
     requires number { control ≤ (B.seen blocks.old).number }
     ensures same { IfOk result (λ other. IfNone other ((state.now.part ≡ old.now.part) × (state.now.number ≡ old.now.number))) }
     ensures none { IfOk result (λ other. (state.now.part ≡ old.now.part) × (state.now.number ≡ old.now.number) → other ≡ None) }
-    ensures out { IfOk result (λ other. (state.now.part ≡ old.now.part) × (old.now.number < state.now.number) → IsSomeAnd other (λ t. TakesOut changed.now.items table.now t)) }
-    ensures anew { IfOk result (λ other. ((state.now.part ≡ old.now.part) × (old.now.number < state.now.number) → ⊥) → IfSome other (λ t. IsTable control (B.seen blocks.old).number t.pages.items (reverse t.free.items))) }
-    ensures stands { IfOk result (λ other. ((state.now.part ≡ old.now.part) × (old.now.number < state.now.number) → ⊥) → IfSome other (λ t. IfSome (B.seen blocks.old).list (TableStands indexes changed.now.items control t.pages.items (reverse t.free.items)))) }
+    ensures out { IfOk result (λ other. (state.now.part ≡ old.now.part) × (old.now.number < state.now.number)
+        → IsSomeAnd other (λ t. TakesOut changed.now.items table.now t)) }
+    ensures anew { IfOk result (λ other. ((state.now.part ≡ old.now.part) × (old.now.number < state.now.number) → ⊥)
+        → IfSome other (λ t. IsTable control (B.seen blocks.old).number t.pages.items (reverse t.free.items))) }
+    ensures stands { IfOk result (λ other. ((state.now.part ≡ old.now.part) × (old.now.number < state.now.number) → ⊥)
+        → IfSome other (λ t. IfSome (B.seen blocks.old).list (TableStands indexes changed.now.items control t.pages.items (reverse t.free.items)))) }
     ensures looks { Looks (B.steady blocks.old blocks.new) (B.seen blocks.old) (B.seen blocks.new) }
     ensures failed { IsErrOf result VolWhy.Failed → Rose (B.seen blocks.old).disk_faults (B.seen blocks.new).disk_faults }
     ensures live { (result ≡ Err VolWhy.Failed → ⊥) → IsTrue (B.seen blocks.new).live }
@@ -131,10 +134,14 @@ pub(crate) fn plan<B: Blocks>(
     ensures states { IfOk result (λ change. change.states.items ≡ slice_set states.now.items place state.now) }
     ensures same { IfOk result (λ change. IfNone change.table (KeepsNumber states.now.items place state.now)) }
     ensures none { IfOk result (λ change. KeepsNumber states.now.items place state.now → change.table ≡ None) }
-    ensures out { IfOk result (λ change. RaisesNumber states.now.items place state.now → IsSomeAnd change.table (λ t. TakesOut change.states.items table.now t)) }
-    ensures anew { IfOk result (λ change. (RaisesNumber states.now.items place state.now → ⊥) → IfSome change.table (λ t. IsTable control (B.seen blocks.old).number t.pages.items (reverse t.free.items))) }
-    ensures stands { IfOk result (λ change. (RaisesNumber states.now.items place state.now → ⊥) → IfSome change.table (λ t. IfSome (B.seen blocks.old).list (TableStands indexes change.states.items control t.pages.items (reverse t.free.items)))) }
-    ensures block { IfOk result (λ change. IfSome (B.seen blocks.old).list (λ list. change.block ≡ with_row (place % 32) (control_row state.now) (slice_index_or list (place / 32) []))) }
+    ensures out { IfOk result (λ change. RaisesNumber states.now.items place state.now
+        → IsSomeAnd change.table (λ t. TakesOut change.states.items table.now t)) }
+    ensures anew { IfOk result (λ change. (RaisesNumber states.now.items place state.now → ⊥)
+        → IfSome change.table (λ t. IsTable control (B.seen blocks.old).number t.pages.items (reverse t.free.items))) }
+    ensures stands { IfOk result (λ change. (RaisesNumber states.now.items place state.now → ⊥)
+        → IfSome change.table (λ t. IfSome (B.seen blocks.old).list (TableStands indexes change.states.items control t.pages.items (reverse t.free.items)))) }
+    ensures block { IfOk result (λ change. IfSome (B.seen blocks.old).list
+        (λ list. change.block ≡ with_row (place % 32) (control_row state.now) (slice_index_or list (place / 32) []))) }
     ensures looks { Looks (B.steady blocks.old blocks.new) (B.seen blocks.old) (B.seen blocks.new) }
     ensures failed { IsErrOf result VolWhy.Failed → Rose (B.seen blocks.old).disk_faults (B.seen blocks.new).disk_faults }
     ensures live { (result ≡ Err VolWhy.Failed → ⊥) → IsTrue (B.seen blocks.new).live }

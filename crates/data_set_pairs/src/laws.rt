@@ -19,13 +19,25 @@ impl<B: Blocks> Volume<B> {
     /// set says no more than its head may, each data block is free or live; then the live blocks of each data set are numbered
     /// from 0 on, and the data set's pages are all of them.
     pub fn is_its_blocks(&self)
-        ensures rows { IfSome (B.seen self.now.blocks).list (λ list. (place : ℕ) (s : PartState) → slice_get self.now.states.items place ≡ Some s → row_in list place ≡ control_row s) }
-        ensures rest { IfSome (B.seen self.now.blocks).list (λ list. (place : ℕ) → length self.now.states.items ≤ place → place < 32 * self.now.control → row_in list place ≡ replicate 128 0) }
-        ensures pages { IfSome (B.seen self.now.blocks).list (λ list. (set : SetId) (n block : ℕ) → slice_get (places_of set self.now.table.pages.items) n ≡ Some block → IsPage self.now.indexes self.now.states.items set n (slice_index_or list block [])) }
-        ensures each { IfSome (B.seen self.now.blocks).list (λ list. (block : ℕ) → self.now.control ≤ block → block < length list → is_free self.now.states.items (slice_index_or list block []) ≡ false → slice_get (places_of (set_in (slice_index_or list block [])) self.now.table.pages.items) (page_in (slice_index_or list block [])) ≡ Some block) }
-        ensures known { IfSome (B.seen self.now.blocks).list (λ list. ((set : SetId) → All (λ page. IsTrue (says_no_more page)) (blocks_at (places_of set self.now.table.pages.items) list)) → IsTrue (are_known self.now.indexes self.now.states.items (drop self.now.control list))) }
-        ensures numbered { IfSome (B.seen self.now.blocks).list (λ list. IsTrue (are_known self.now.indexes self.now.states.items (drop self.now.control list)) → AreNumbered self.now.indexes self.now.states.items (drop self.now.control list)) }
-        ensures counted { IfSome (B.seen self.now.blocks).list (λ list. IsTrue (are_known self.now.indexes self.now.states.items (drop self.now.control list)) → (set : SetId) → length (set_blocks self.now.indexes self.now.states.items set (drop self.now.control list)) ≡ length (places_of set self.now.table.pages.items)) }
+        ensures rows { IfSome (B.seen self.now.blocks).list (λ list. (place : ℕ) (s : PartState) → slice_get self.now.states.items place ≡ Some s
+            → row_in list place ≡ control_row s) }
+        ensures rest { IfSome (B.seen self.now.blocks).list (λ list. (place : ℕ) → length self.now.states.items ≤ place → place < 32 * self.now.control
+            → row_in list place ≡ replicate 128 0) }
+        ensures pages { IfSome (B.seen self.now.blocks).list
+            (λ list. (set : SetId) (n block : ℕ) → slice_get (places_of set self.now.table.pages.items) n ≡ Some block
+            → IsPage self.now.indexes self.now.states.items set n (slice_index_or list block [])) }
+        ensures each { IfSome (B.seen self.now.blocks).list (λ list. (block : ℕ) → self.now.control ≤ block → block < length list
+            → is_free self.now.states.items (slice_index_or list block []) ≡ false → slice_get (places_of (set_in (slice_index_or list block []))
+            self.now.table.pages.items) (page_in (slice_index_or list block [])) ≡ Some block) }
+        ensures known { IfSome (B.seen self.now.blocks).list
+            (λ list. ((set : SetId) → All (λ page. IsTrue (says_no_more page)) (blocks_at (places_of set self.now.table.pages.items) list))
+            → IsTrue (are_known self.now.indexes self.now.states.items (drop self.now.control list))) }
+        ensures numbered { IfSome (B.seen self.now.blocks).list
+            (λ list. IsTrue (are_known self.now.indexes self.now.states.items (drop self.now.control list))
+            → AreNumbered self.now.indexes self.now.states.items (drop self.now.control list)) }
+        ensures counted { IfSome (B.seen self.now.blocks).list
+            (λ list. IsTrue (are_known self.now.indexes self.now.states.items (drop self.now.control list)) → (set : SetId)
+            → length (set_blocks self.now.indexes self.now.states.items set (drop self.now.control list)) ≡ length (places_of set self.now.table.pages.items)) }
     {}
 
     /// Where a reorganization begins, goes on, pauses or is resumed, the condition of `set_state` holds of the new state if

@@ -31,8 +31,11 @@ pub(crate) fn load<B: Blocks>(
     requires live { IsTrue (B.seen blocks.old).live }
     requires number { (B.seen blocks.old).number ≡ control_count schema.now + schema.now.blocks }
     ensures many { IfOk result (λ loaded. length loaded.states.items ≡ length schema.now.parts) }
-    ensures table { IfOk result (λ loaded. IsTable (control_count schema.now) (B.seen blocks.old).number loaded.table.pages.items (reverse loaded.table.free.items)) }
-    ensures laid { IfOk result (λ loaded. IfSome (B.seen blocks.old).list (IsLaidOut (length schema.now.indexes) (control_count schema.now) (B.seen blocks.old).number loaded.states.items loaded.table.pages.items (reverse loaded.table.free.items))) }
+    ensures table { IfOk result (λ loaded. IsTable (control_count schema.now) (B.seen blocks.old).number loaded.table.pages.items
+        (reverse loaded.table.free.items)) }
+    ensures laid { IfOk result (λ loaded. IfSome (B.seen blocks.old).list
+        (IsLaidOut (length schema.now.indexes) (control_count schema.now) (B.seen blocks.old).number loaded.states.items loaded.table.pages.items
+        (reverse loaded.table.free.items))) }
     ensures one { IfOk result (λ loaded. IfSome (B.seen blocks.old).list (λ list. KeepsRule1 schema.now list loaded.states.items)) }
     ensures two { IfOk result (λ loaded. IfSome (B.seen blocks.old).list (λ list. KeepsRule2 schema.now list loaded.states.items)) }
     ensures rule { (rule : ℕ) → IsErrOf result (VolWhy.Damaged rule) → (rule ≡ 1) ⊎ (rule ≡ 2) }

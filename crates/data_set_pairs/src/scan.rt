@@ -22,7 +22,9 @@ fn take_up(
     n: u32,
     block: &[u8; BLOCK],
 ) -> Result<bool, Memory>
-    ensures taken { (blocks : List (List ℕ)) → IsScanned indexes states.now (n + 1) blocks table.old.pages.items table.old.free.items → IfOk result (λ good. MatchBool good (IsScanned indexes states.now n (block.now ∷ blocks) table.new.pages.items table.new.free.items) (HasUnknown indexes states.now (block.now ∷ blocks))) }
+    ensures taken { (blocks : List (List ℕ)) → IsScanned indexes states.now (n + 1) blocks table.old.pages.items table.old.free.items
+        → IfOk result (λ good. MatchBool good (IsScanned indexes states.now n (block.now ∷ blocks) table.new.pages.items table.new.free.items)
+        (HasUnknown indexes states.now (block.now ∷ blocks))) }
 {
     if is_free(states, block) {
         table.free.push(n)?;
@@ -50,8 +52,10 @@ pub(crate) fn scan<B: Blocks>(
 ) -> Result<Table, VolWhy>
     requires live { IsTrue (B.seen blocks.old).live }
     requires number { control ≤ (B.seen blocks.old).number }
-    ensures table { IfOk result (λ table. HasScanned indexes states.now control (B.seen blocks.old).number (B.seen blocks.old).list table.pages.items table.free.items) }
-    ensures broken { (rule : ℕ) → result ≡ Err (VolWhy.Damaged rule) → (rule ≡ 1) × IfSome (B.seen blocks.old).list (λ list. HasUnknown indexes states.now (drop control list)) }
+    ensures table { IfOk result (λ table. HasScanned indexes states.now control (B.seen blocks.old).number (B.seen blocks.old).list table.pages.items
+        table.free.items) }
+    ensures broken { (rule : ℕ) → result ≡ Err (VolWhy.Damaged rule) → (rule ≡ 1)
+        × IfSome (B.seen blocks.old).list (λ list. HasUnknown indexes states.now (drop control list)) }
     ensures looks { Looks (B.steady blocks.old blocks.new) (B.seen blocks.old) (B.seen blocks.new) }
     ensures failed { IsErrOf result VolWhy.Failed → Rose (B.seen blocks.old).disk_faults (B.seen blocks.new).disk_faults }
     ensures live { (result ≡ Err VolWhy.Failed → ⊥) → IsTrue (B.seen blocks.new).live }
@@ -80,10 +84,12 @@ pub(crate) fn read_table<B: Blocks>(
     requires live { IsTrue (B.seen blocks.old).live }
     requires number { control ≤ (B.seen blocks.old).number }
     ensures table { IfOk result (λ table. IsTable control (B.seen blocks.old).number table.pages.items (reverse table.free.items)) }
-    ensures stands { IfOk result (λ table. IfSome (B.seen blocks.old).list (TableStands indexes states.now control table.pages.items (reverse table.free.items))) }
+    ensures stands { IfOk result (λ table. IfSome (B.seen blocks.old).list
+        (TableStands indexes states.now control table.pages.items (reverse table.free.items))) }
     ensures known { OnOk result (IfSome (B.seen blocks.old).list (λ list. IsTrue (are_known indexes states.now (drop control list)))) }
     ensures numbered { OnOk result (IfSome (B.seen blocks.old).list (λ list. AreNumbered indexes states.now (drop control list))) }
-    ensures broken { (rule : ℕ) → result ≡ Err (VolWhy.Damaged rule) → IfSome (B.seen blocks.old).list (λ list. BreaksRule indexes states.now (drop control list) rule) }
+    ensures broken { (rule : ℕ) → result ≡ Err (VolWhy.Damaged rule)
+        → IfSome (B.seen blocks.old).list (λ list. BreaksRule indexes states.now (drop control list) rule) }
     ensures rule { (rule : ℕ) → result ≡ Err (VolWhy.Damaged rule) → (rule ≡ 1) ⊎ (rule ≡ 2) }
     ensures looks { Looks (B.steady blocks.old blocks.new) (B.seen blocks.old) (B.seen blocks.new) }
     ensures failed { IsErrOf result VolWhy.Failed → Rose (B.seen blocks.old).disk_faults (B.seen blocks.new).disk_faults }

@@ -28,14 +28,22 @@ impl<B: Blocks> Volume<B> {
         requires short { length (cursor_bytes state.now.cursor) ≤ 120 }
         requires known { DataKnown self.old.indexes self.old.control (slice_set self.old.states.items place state.now) (B.seen self.old.blocks).list }
         requires numbered { DataNumbered self.old.indexes self.old.control (slice_set self.old.states.items place state.now) (B.seen self.old.blocks).list }
-        ensures row { OnOk result ((B.seen self.new.blocks).list ≡ option_map (λ list. slice_set list (place / 32) (with_row (place % 32) (control_row state.now) (slice_index_or list (place / 32) []))) (B.seen self.old.blocks).list) }
+        ensures row { OnOk result ((B.seen self.new.blocks).list
+            ≡ option_map (λ list. slice_set list (place / 32)
+            (with_row (place % 32) (control_row state.now) (slice_index_or list (place / 32) []))) (B.seen self.old.blocks).list) }
         ensures states { OnOk result (self.new.states.items ≡ slice_set self.old.states.items place state.now) }
         ensures of { (self.new.control ≡ self.old.control) × (self.new.indexes ≡ self.old.indexes) }
-        ensures same { OnOk result (KeepsNumber self.old.states.items place state.now → SameShelf (view self.old.indexes self.old.states.items self.old.table (B.seen self.old.blocks)) (view self.new.indexes self.new.states.items self.new.table (B.seen self.new.blocks))) }
-        ensures left { OnOk result (RaisesNumber self.old.states.items place state.now → LeavesBehind self.new.states.items (view self.old.indexes self.old.states.items self.old.table (B.seen self.old.blocks)) (view self.new.indexes self.new.states.items self.new.table (B.seen self.new.blocks))) }
+        ensures same { OnOk result (KeepsNumber self.old.states.items place state.now
+            → SameShelf (view self.old.indexes self.old.states.items self.old.table (B.seen self.old.blocks)) (view self.new.indexes
+            self.new.states.items self.new.table (B.seen self.new.blocks))) }
+        ensures left { OnOk result (RaisesNumber self.old.states.items place state.now
+            → LeavesBehind self.new.states.items (view self.old.indexes self.old.states.items self.old.table (B.seen self.old.blocks)) (view
+            self.new.indexes self.new.states.items self.new.table (B.seen self.new.blocks))) }
         ensures unchanged { OnErr result ((B.seen self.new.blocks).list ≡ (B.seen self.old.blocks).list) }
-        ensures held { OnErr result (held self.new.control self.new.indexes self.new.states self.new.table ≡ held self.old.control self.old.indexes self.old.states self.old.table) }
-        ensures kept { last_held self.new.control self.new.indexes self.new.kept_states self.new.states self.new.kept_table self.new.table ≡ last_held self.old.control self.old.indexes self.old.kept_states self.old.states self.old.kept_table self.old.table }
+        ensures held { OnErr result (held self.new.control self.new.indexes self.new.states self.new.table
+            ≡ held self.old.control self.old.indexes self.old.states self.old.table) }
+        ensures kept { last_held self.new.control self.new.indexes self.new.kept_states self.new.states self.new.kept_table self.new.table
+            ≡ last_held self.old.control self.old.indexes self.old.kept_states self.old.states self.old.kept_table self.old.table }
         ensures stays { Stays (B.steady self.old.blocks self.new.blocks) (B.seen self.old.blocks) (B.seen self.new.blocks) }
         ensures cause { HasCauseFor (B.seen self.old.blocks).disk_faults (B.seen self.new.blocks).disk_faults result StageFault.Failed }
         ensures live { (result ≡ Err StageFault.Failed → ⊥) → IsTrue (B.seen self.new.blocks).live }

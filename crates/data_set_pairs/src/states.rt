@@ -25,8 +25,10 @@ fn take_row(
 ) -> Result<bool, Memory>
     requires row { length row.now ≡ ROW }
     requires place { place < 32 * control_count schema.now }
-    ensures many { length states.old.items ≡ min place (length schema.now.parts) → IfOk result (λ good. IsTrue good → length states.new.items ≡ min (place + 1) (length schema.now.parts)) }
-    ensures taken { (blocks : List (List ℕ)) → row_in blocks place ≡ row.now → HasFirstStates schema.now blocks place states.old.items → IfOk result (λ good. MatchBool good (HasFirstStates schema.now blocks (place + 1) states.new.items) (HasNoStates schema.now blocks)) }
+    ensures many { length states.old.items ≡ min place (length schema.now.parts)
+        → IfOk result (λ good. IsTrue good → length states.new.items ≡ min (place + 1) (length schema.now.parts)) }
+    ensures taken { (blocks : List (List ℕ)) → row_in blocks place ≡ row.now → HasFirstStates schema.now blocks place states.old.items
+        → IfOk result (λ good. MatchBool good (HasFirstStates schema.now blocks (place + 1) states.new.items) (HasNoStates schema.now blocks)) }
 {
     if usize::from(place) >= schema.parts.len() {
         return Ok(is_zero(row));
@@ -55,8 +57,11 @@ fn take_block(
     states: &mut Vec<PartState>,
 ) -> Result<bool, Memory>
     requires { number < control_count schema.now }
-    ensures many { length states.old.items ≡ min (32 * number) (length schema.now.parts) → IfOk result (λ good. IsTrue good → length states.new.items ≡ min (32 * number + 32) (length schema.now.parts)) }
-    ensures taken { (blocks : List (List ℕ)) → slice_get blocks number ≡ Some block.now → HasFirstStates schema.now blocks (32 * number) states.old.items → IfOk result (λ good. MatchBool good (HasFirstStates schema.now blocks (32 * number + 32) states.new.items) (HasNoStates schema.now blocks)) }
+    ensures many { length states.old.items ≡ min (32 * number) (length schema.now.parts)
+        → IfOk result (λ good. IsTrue good → length states.new.items ≡ min (32 * number + 32) (length schema.now.parts)) }
+    ensures taken { (blocks : List (List ℕ)) → slice_get blocks number ≡ Some block.now
+        → HasFirstStates schema.now blocks (32 * number) states.old.items → IfOk result (λ good. MatchBool good
+        (HasFirstStates schema.now blocks (32 * number + 32) states.new.items) (HasNoStates schema.now blocks)) }
 {
     for row in 0..ROWS {
         let start = usize::from(row) * ROW;
@@ -89,7 +94,8 @@ pub(crate) fn read_states<B: Blocks>(
     requires live { IsTrue (B.seen blocks.old).live }
     requires number { control_count schema.now ≤ (B.seen blocks.old).number }
     ensures many { IfOk result (λ states. length states.items ≡ length schema.now.parts) }
-    ensures states { IfOk result (λ states. IfSome (B.seen blocks.old).list (λ list. HasFirstStates schema.now list (32 * control_count schema.now) states.items)) }
+    ensures states { IfOk result (λ states. IfSome (B.seen blocks.old).list
+        (λ list. HasFirstStates schema.now list (32 * control_count schema.now) states.items)) }
     ensures broken { (rule : ℕ) → result ≡ Err (VolWhy.Damaged rule) → (rule ≡ 1) × IfSome (B.seen blocks.old).list (HasNoStates schema.now) }
     ensures looks { Looks (B.steady blocks.old blocks.new) (B.seen blocks.old) (B.seen blocks.new) }
     ensures failed { IsErrOf result VolWhy.Failed → Rose (B.seen blocks.old).disk_faults (B.seen blocks.new).disk_faults }

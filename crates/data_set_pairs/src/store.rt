@@ -15,10 +15,14 @@ impl<B: Store> Volume<B> {
         requires { IsTrue (B.seen self.old.blocks).live }
         ensures commits { Commits result (B.seen self.old.blocks) (B.seen self.new.blocks) }
         ensures steady { B.steady self.old.blocks self.new.blocks }
-        ensures faults { Fails (IsErrOf result JournalFault.DiskFault) (B.seen self.old.blocks).disk_faults (B.seen self.new.blocks).disk_faults (B.seen self.new.blocks).live }
-        ensures held { held self.new.control self.new.indexes self.new.states self.new.table ≡ held self.old.control self.old.indexes self.old.states self.old.table }
-        ensures kept { OnOk result (last_held self.new.control self.new.indexes self.new.kept_states self.new.states self.new.kept_table self.new.table ≡ held self.old.control self.old.indexes self.old.states self.old.table) }
-        ensures stays { OnErr result (last_held self.new.control self.new.indexes self.new.kept_states self.new.states self.new.kept_table self.new.table ≡ last_held self.old.control self.old.indexes self.old.kept_states self.old.states self.old.kept_table self.old.table) }
+        ensures faults { Fails (IsErrOf result JournalFault.DiskFault) (B.seen self.old.blocks).disk_faults (B.seen self.new.blocks).disk_faults
+            (B.seen self.new.blocks).live }
+        ensures held { held self.new.control self.new.indexes self.new.states self.new.table
+            ≡ held self.old.control self.old.indexes self.old.states self.old.table }
+        ensures kept { OnOk result (last_held self.new.control self.new.indexes self.new.kept_states self.new.states self.new.kept_table self.new.table
+            ≡ held self.old.control self.old.indexes self.old.states self.old.table) }
+        ensures stays { OnErr result (last_held self.new.control self.new.indexes self.new.kept_states self.new.states self.new.kept_table
+            self.new.table ≡ last_held self.old.control self.old.indexes self.old.kept_states self.old.states self.old.kept_table self.old.table) }
     {
         match self.blocks.commit() {
             Ok(()) => {
@@ -35,8 +39,10 @@ impl<B: Store> Volume<B> {
         requires { IsTrue (B.seen self.old.blocks).live }
         ensures forgets { Forgets (B.seen self.old.blocks) (B.seen self.new.blocks) }
         ensures steady { B.steady self.old.blocks self.new.blocks }
-        ensures held { held self.new.control self.new.indexes self.new.states self.new.table ≡ last_held self.old.control self.old.indexes self.old.kept_states self.old.states self.old.kept_table self.old.table }
-        ensures kept { last_held self.new.control self.new.indexes self.new.kept_states self.new.states self.new.kept_table self.new.table ≡ last_held self.old.control self.old.indexes self.old.kept_states self.old.states self.old.kept_table self.old.table }
+        ensures held { held self.new.control self.new.indexes self.new.states self.new.table
+            ≡ last_held self.old.control self.old.indexes self.old.kept_states self.old.states self.old.kept_table self.old.table }
+        ensures kept { last_held self.new.control self.new.indexes self.new.kept_states self.new.states self.new.kept_table self.new.table
+            ≡ last_held self.old.control self.old.indexes self.old.kept_states self.old.states self.old.kept_table self.old.table }
     {
         self.blocks.forget();
         take_back(&mut self.states, &mut self.kept_states);
@@ -48,8 +54,10 @@ impl<B: Store> Volume<B> {
         requires { IsTrue (B.seen self.old.blocks).live }
         ensures says { Says result text.now (B.seen self.old.blocks) (B.seen self.new.blocks) }
         ensures steady { B.steady self.old.blocks self.new.blocks }
-        ensures held { held self.new.control self.new.indexes self.new.states self.new.table ≡ held self.old.control self.old.indexes self.old.states self.old.table }
-        ensures kept { last_held self.new.control self.new.indexes self.new.kept_states self.new.states self.new.kept_table self.new.table ≡ last_held self.old.control self.old.indexes self.old.kept_states self.old.states self.old.kept_table self.old.table }
+        ensures held { held self.new.control self.new.indexes self.new.states self.new.table
+            ≡ held self.old.control self.old.indexes self.old.states self.old.table }
+        ensures kept { last_held self.new.control self.new.indexes self.new.kept_states self.new.states self.new.kept_table self.new.table
+            ≡ last_held self.old.control self.old.indexes self.old.kept_states self.old.states self.old.kept_table self.old.table }
     {
         self.blocks.say(text)
     }

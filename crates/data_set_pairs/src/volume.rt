@@ -52,10 +52,14 @@ impl<B: Blocks> Volume<B> {
         ensures breaks_one { IfErr result (λ fault. fault.why ≡ VolWhy.Damaged 1 → IfSome (B.seen blocks).list (BreaksOne schema.now)) }
         ensures breaks_two { IfErr result (λ fault. fault.why ≡ VolWhy.Damaged 2 → IfSome (B.seen blocks).list (BreaksTwo schema.now)) }
         ensures failed { IfErr result (λ fault. fault.why ≡ VolWhy.Failed → Rose (B.seen blocks).disk_faults (B.seen fault.blocks).disk_faults) }
-        ensures looks { MatchResult result (λ volume. Looks (B.steady blocks volume.blocks) (B.seen blocks) (B.seen volume.blocks)) (λ fault. Looks (B.steady blocks fault.blocks) (B.seen blocks) (B.seen fault.blocks)) }
-        ensures live { MatchResult result (λ volume. IsTrue (B.seen volume.blocks).live) (λ fault. (fault.why ≡ VolWhy.Failed → ⊥) → IsTrue (B.seen fault.blocks).live) }
-        ensures last { IfOk result (λ volume. last_held volume.control volume.indexes volume.kept_states volume.states volume.kept_table volume.table ≡ held volume.control volume.indexes volume.states volume.table) }
-        ensures of { IfOk result (λ volume. (volume.indexes ≡ length schema.now.indexes) × (volume.control ≡ control_count schema.now) × (length volume.states.items ≡ length schema.now.parts)) }
+        ensures looks { MatchResult result (λ volume. Looks (B.steady blocks volume.blocks) (B.seen blocks) (B.seen volume.blocks))
+            (λ fault. Looks (B.steady blocks fault.blocks) (B.seen blocks) (B.seen fault.blocks)) }
+        ensures live { MatchResult result (λ volume. IsTrue (B.seen volume.blocks).live)
+            (λ fault. (fault.why ≡ VolWhy.Failed → ⊥) → IsTrue (B.seen fault.blocks).live) }
+        ensures last { IfOk result (λ volume. last_held volume.control volume.indexes volume.kept_states volume.states volume.kept_table volume.table
+            ≡ held volume.control volume.indexes volume.states volume.table) }
+        ensures of { IfOk result (λ volume. (volume.indexes ≡ length schema.now.indexes) × (volume.control ≡ control_count schema.now)
+            × (length volume.states.items ≡ length schema.now.parts)) }
     {
         match load(alloc, &mut blocks, schema) {
             Ok(loaded) => Ok(Volume {

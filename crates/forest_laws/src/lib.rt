@@ -1,5 +1,13 @@
 //! Laws of forests: what the definitions of `hal_schema` say of every schema and every list of rows. Each law is
 //! the contract of a function without code; a proof above calls it and has the law.
+//!
+//! - `keeping.rt`: what keeps a well-formed forest;
+//! - `places.rt`: where an insertion goes;
+//! - `paths.rt`: paths by levels, and keys along them;
+//! - `spans.rt`: spans, and what cutting one out leaves;
+//! - `entries.rt`: the entries of an index;
+//! - `joining.rt`: lists in sequence, one behind another;
+//! - `examples.rt`: a forest of three levels that meets the laws.
 #![tactic(auto)]
 
 mod entries;

@@ -52,8 +52,10 @@ fn has_room(space: Space, fspf: u8, len: u16) -> bool
 /// The page that takes a cell of this length without a new one.
 fn page_with_room(spaces: &[Space], fbff: u8, fspf: u8, len: u16) -> Option<usize>
     requires { length spaces.now < 2 ^ 32 }
-    ensures found { IfSome result (λ page. IsLastOpen fbff spaces.now page × ((space : SpaceOf) → slice_get spaces.now page ≡ Some space → HasRoom fspf len space)) }
-    ensures none { IfNone result ((page : ℕ) (space : SpaceOf) → IsLastOpen fbff spaces.now page → slice_get spaces.now page ≡ Some space → HasRoom fspf len space → ⊥) }
+    ensures found { IfSome result (λ page. IsLastOpen fbff spaces.now page
+        × ((space : SpaceOf) → slice_get spaces.now page ≡ Some space → HasRoom fspf len space)) }
+    ensures none { IfNone result ((page : ℕ) (space : SpaceOf) → IsLastOpen fbff spaces.now page → slice_get spaces.now page ≡ Some space
+        → HasRoom fspf len space → ⊥) }
 {
     let page = last_open(spaces, fbff)?;
     if has_room(spaces[page], fspf, len) {
@@ -127,7 +129,8 @@ impl CellStore {
         requires typed { IsTyped self.old.shapes cell.now }
         requires content { length cell.now.content ≤ 2016 }
         requires step { fbff ≢ 1 }
-        ensures appended { MatchResult result (AppendsAt self.old cell.now fbff fspf (H.seen shelf.old) (H.seen shelf.new)) (λ _. GetsEmpty self.old (H.seen shelf.old) (H.seen shelf.new)) }
+        ensures appended { MatchResult result (AppendsAt self.old cell.now fbff fspf (H.seen shelf.old) (H.seen shelf.new))
+            (λ _. GetsEmpty self.old (H.seen shelf.old) (H.seen shelf.new)) }
         ensures no_room { IsErrOf result PageFault.NoRoom → (length (H.seen shelf.old).free < opened_pages fbff (length ((H.seen shelf.old).places self.old.set)))
             × IsSaid self.old (H.seen shelf.old) (NoPlace fbff fspf (length_of cell.now)) }
         ensures few { added self.old.set (H.seen shelf.old) (H.seen shelf.new) ≤ opened_pages fbff (length ((H.seen shelf.old).places self.old.set)) }

@@ -48,7 +48,8 @@ impl CellStore {
         requires stands { StandsFor self.old (H.seen shelf.old) }
         requires takes { IsTrue ((H.seen shelf.old).takes self.old.set 1) }
         ensures number { IfOk result (λ n. n ≡ length self.old.spaces.items) }
-        ensures grown { MatchResult result (λ n. GrewBy 1 self.old (H.seen shelf.old) (H.seen shelf.new)) (λ fault. SameShelf (H.seen shelf.old) (H.seen shelf.new)) }
+        ensures grown { MatchResult result (λ n. GrewBy 1 self.old (H.seen shelf.old) (H.seen shelf.new))
+            (λ fault. SameShelf (H.seen shelf.old) (H.seen shelf.new)) }
         ensures no_room { IsErrOf result PageFault.NoRoom → (H.seen shelf.old).free ≡ [] }
         ensures stays { StaysOpen self.old self.new (H.seen shelf.new) }
         ensures keeps { Keeps (H.steady shelf.old shelf.new) (IsErrOf result PageFault.Failed) (H.seen shelf.old) (H.seen shelf.new) }
@@ -84,7 +85,8 @@ impl CellStore {
         requires tiling { IsTiling self.old.shapes block.old tiles.now }
         requires gap { IsGap tiles.now (length_of cell.now) gap }
         requires read { IsPage self.old.set page block.old (H.seen shelf.old) }
-        ensures takes { IfOk result (λ at. Relays self.old (H.seen shelf.old) (H.seen shelf.new) (TakesHole self.old.set cell.now at page (take gap.place tiles.now) gap.room (drop (gap.place + 1) tiles.now))) }
+        ensures takes { IfOk result (λ at. Relays self.old (H.seen shelf.old) (H.seen shelf.new)
+            (TakesHole self.old.set cell.now at page (take gap.place tiles.now) gap.room (drop (gap.place + 1) tiles.now))) }
         ensures unchanged { OnErr result (SameShelf (H.seen shelf.old) (H.seen shelf.new)) }
         ensures room { result ≡ Err PageFault.NoRoom → ⊥ }
         ensures stays { StaysOpen self.old self.new (H.seen shelf.new) }

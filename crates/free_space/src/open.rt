@@ -22,7 +22,8 @@ fn read_space<H: Shelf>(
     requires below { page < length ((H.seen shelf.old).places set) }
     ensures space { IfOk result (λ space. (pages : ListOf (ListOf ℕ)) → (H.seen shelf.old).pages set ≡ Some pages → IsSpaceOf shapes.now pages page space) }
     ensures number { (n offset : ℕ) → result ≡ Err (StoreFault.BadTile n offset) → n ≡ page }
-    ensures bad { (n offset : ℕ) → result ≡ Err (StoreFault.BadTile n offset) → (pages : ListOf (ListOf ℕ)) → (H.seen shelf.old).pages set ≡ Some pages → BreaksAt shapes.now pages n offset }
+    ensures bad { (n offset : ℕ) → result ≡ Err (StoreFault.BadTile n offset) → (pages : ListOf (ListOf ℕ)) → (H.seen shelf.old).pages set ≡ Some pages
+        → BreaksAt shapes.now pages n offset }
     ensures leaves { OnlyReads 1 (H.steady shelf.old shelf.new) (IsErrOf result StoreFault.Failed) (H.seen shelf.old) (H.seen shelf.new) }
 {
     let mut block = [0; BLOCK];
@@ -46,8 +47,10 @@ fn read_spaces<H: Shelf>(
     requires live { IsTrue (H.seen shelf.old).live }
     ensures many { IfOk result (λ spaces. length spaces.items ≡ length ((H.seen shelf.old).places set)) }
     ensures layout { IfOk result (λ spaces. (pages : ListOf (ListOf ℕ)) → (H.seen shelf.old).pages set ≡ Some pages → Knows shapes.now spaces.items pages) }
-    ensures bad { (n offset : ℕ) → result ≡ Err (StoreFault.BadTile n offset) → (pages : ListOf (ListOf ℕ)) → (H.seen shelf.old).pages set ≡ Some pages → FirstBreaksAt shapes.now pages n offset }
-    ensures leaves { OnlyReads (length ((H.seen shelf.old).places set)) (H.steady shelf.old shelf.new) (IsErrOf result StoreFault.Failed) (H.seen shelf.old) (H.seen shelf.new) }
+    ensures bad { (n offset : ℕ) → result ≡ Err (StoreFault.BadTile n offset) → (pages : ListOf (ListOf ℕ)) → (H.seen shelf.old).pages set ≡ Some pages
+        → FirstBreaksAt shapes.now pages n offset }
+    ensures leaves { OnlyReads (length ((H.seen shelf.old).places set)) (H.steady shelf.old shelf.new) (IsErrOf result StoreFault.Failed)
+        (H.seen shelf.old) (H.seen shelf.new) }
 {
     let mut spaces = Vec::new(alloc);
     for page in 0..shelf.pages(set) {
@@ -83,8 +86,10 @@ impl CellStore {
         ensures opened { IfOk result (λ store. StandsFor store (H.seen shelf.new)) }
         ensures set { IfOk result (λ store. store.set ≡ set) }
         ensures shapes { IfOk result (λ store. store.shapes ≡ shapes.now) }
-        ensures bad { (n offset : ℕ) → result ≡ Err (StoreFault.BadTile n offset) → (pages : ListOf (ListOf ℕ)) → (H.seen shelf.old).pages set ≡ Some pages → FirstBreaksAt shapes.now pages n offset }
-        ensures leaves { OnlyReads (length ((H.seen shelf.old).places set)) (H.steady shelf.old shelf.new) (IsErrOf result StoreFault.Failed) (H.seen shelf.old) (H.seen shelf.new) }
+        ensures bad { (n offset : ℕ) → result ≡ Err (StoreFault.BadTile n offset) → (pages : ListOf (ListOf ℕ)) → (H.seen shelf.old).pages set
+            ≡ Some pages → FirstBreaksAt shapes.now pages n offset }
+        ensures leaves { OnlyReads (length ((H.seen shelf.old).places set)) (H.steady shelf.old shelf.new) (IsErrOf result StoreFault.Failed)
+            (H.seen shelf.old) (H.seen shelf.new) }
     {
         let shapes = kept(alloc, shapes)?;
         let spaces = read_spaces(alloc, shelf, set, shapes.as_slice())?;

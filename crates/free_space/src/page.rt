@@ -39,7 +39,8 @@ pub(crate) fn fill(block: &mut [u8; BLOCK], shape: Shape, gap: Gap, cell: &Cell)
 pub(crate) fn filled(tiles: &[Tile], gap: Gap, len: u16) -> Space
     requires within { gap.place < length tiles.now }
     requires fits { len ≤ gap.room }
-    ensures { (cell : CellOf) → result ≡ space_of (take gap.place tiles.now ++ (TileOf.Seg gap.at cell ∷ left_over (gap.at + len) (gap.room - len) ++ drop (gap.place + 1) tiles.now)) }
+    ensures { (cell : CellOf) → result ≡ space_of (take gap.place tiles.now ++
+        (TileOf.Seg gap.at cell ∷ left_over (gap.at + len) (gap.room - len) ++ drop (gap.place + 1) tiles.now)) }
 {
     let before = Space::none().with_all(&tiles[..gap.place]);
     let filled = before.with_cell().with_rest(gap.room - len);

@@ -45,7 +45,8 @@ impl CellStore {
         requires takes { IsTrue ((H.seen shelf.old).takes self.old.set 1) }
         requires typed { IsTyped self.old.shapes cell.now }
         requires content { length cell.now.content ≤ 2016 }
-        ensures placed { MatchResult result (PlacesAt self.old cell.now (H.seen shelf.old) (H.seen shelf.new)) (λ _. GetsEmpty self.old (H.seen shelf.old) (H.seen shelf.new)) }
+        ensures placed { MatchResult result (PlacesAt self.old cell.now (H.seen shelf.old) (H.seen shelf.new))
+            (λ _. GetsEmpty self.old (H.seen shelf.old) (H.seen shelf.new)) }
         ensures no_room { IsErrOf result PageFault.NoRoom → ((H.seen shelf.old).free ≡ []) × SameShelf (H.seen shelf.old) (H.seen shelf.new)
             × IsSaid self.old (H.seen shelf.old) (NoHoleFits (length_of cell.now)) }
         ensures few { added self.old.set (H.seen shelf.old) (H.seen shelf.new) ≤ 1 }

@@ -20,7 +20,8 @@ impl CellStore {
         requires live { IsTrue (H.seen shelf.old).live }
         requires stands { StandsFor self.now (H.seen shelf.old) }
         requires cell { HoldsAt self.now (H.seen shelf.old) at (λ cell. length children.now ≡ length cell.children) }
-        ensures changed { OnOk result (Relays self.now (H.seen shelf.old) (H.seen shelf.new) (Rewrites self.now.set at (λ cell. record cell { twin = twin; children = children.now }))) }
+        ensures changed { OnOk result (Relays self.now (H.seen shelf.old) (H.seen shelf.new)
+            (Rewrites self.now.set at (λ cell. record cell { twin = twin; children = children.now }))) }
         ensures unchanged { OnErr result (SameShelf (H.seen shelf.old) (H.seen shelf.new)) }
         ensures room { result ≡ Err PageFault.NoRoom → ⊥ }
         ensures stands { StandsFor self.now (H.seen shelf.new) }
@@ -42,7 +43,8 @@ impl CellStore {
         requires live { IsTrue (H.seen shelf.old).live }
         requires stands { StandsFor self.now (H.seen shelf.old) }
         requires cell { HoldsAt self.now (H.seen shelf.old) at (λ cell. length content.now ≡ length cell.content) }
-        ensures changed { OnOk result (Relays self.now (H.seen shelf.old) (H.seen shelf.new) (Rewrites self.now.set at (λ cell. record cell { content = content.now }))) }
+        ensures changed { OnOk result (Relays self.now (H.seen shelf.old) (H.seen shelf.new)
+            (Rewrites self.now.set at (λ cell. record cell { content = content.now }))) }
         ensures unchanged { OnErr result (SameShelf (H.seen shelf.old) (H.seen shelf.new)) }
         ensures room { result ≡ Err PageFault.NoRoom → ⊥ }
         ensures stands { StandsFor self.now (H.seen shelf.new) }
@@ -73,7 +75,8 @@ impl CellStore {
         requires live { IsTrue (H.seen shelf.old).live }
         requires stands { StandsFor self.now (H.seen shelf.old) }
         requires cell { HoldsAt self.now (H.seen shelf.old) at (λ _. ⊤) }
-        ensures changed { OnOk result (Relays self.now (H.seen shelf.old) (H.seen shelf.new) (Rewrites self.now.set at (λ cell. record cell { copied = true }))) }
+        ensures changed { OnOk result (Relays self.now (H.seen shelf.old) (H.seen shelf.new)
+            (Rewrites self.now.set at (λ cell. record cell { copied = true }))) }
         ensures unchanged { OnErr result (SameShelf (H.seen shelf.old) (H.seen shelf.new)) }
         ensures room { result ≡ Err PageFault.NoRoom → ⊥ }
         ensures stands { StandsFor self.now (H.seen shelf.new) }

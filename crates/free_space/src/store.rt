@@ -57,7 +57,8 @@ impl CellStore {
     ) -> Result<(), PageFault>
         requires live { IsTrue (H.seen shelf.old).live }
         requires below { page < length ((H.seen shelf.old).places self.now.set) }
-        requires head { (pages : ListOf (ListOf ℕ)) (old : ListOf ℕ) → (H.seen shelf.old).pages self.now.set ≡ Some pages → slice_get pages page ≡ Some old → SameFront old block.now }
+        requires head { (pages : ListOf (ListOf ℕ)) (old : ListOf ℕ) → (H.seen shelf.old).pages self.now.set ≡ Some pages → slice_get pages page
+            ≡ Some old → SameFront old block.now }
         ensures page { OnOk result (HasPut self.now.set page block.now (H.seen shelf.old) (H.seen shelf.new)) }
         ensures unchanged { OnErr result (SameShelf (H.seen shelf.old) (H.seen shelf.new)) }
         ensures room { result ≡ Err PageFault.NoRoom → ⊥ }

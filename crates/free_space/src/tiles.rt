@@ -103,7 +103,8 @@ fn offset_of(tile: &Tile) -> u16
 /// The offset in a page at which the tile of a place begins, or that of the page's end.
 pub(crate) fn start_of(tiles: &[Tile], place: usize) -> u16
     requires { place ≤ length tiles.now }
-    ensures { (shapes : List ShapeOf) (block : List ℕ) → IsTiling shapes block tiles.now → length block ≡ 4096 → result ≡ 16 + length (spelled (take place tiles.now)) }
+    ensures { (shapes : List ShapeOf) (block : List ℕ) → IsTiling shapes block tiles.now → length block ≡ 4096 → result
+        ≡ 16 + length (spelled (take place tiles.now)) }
 {
     match tiles.get(place) {
         Some(tile) => offset_of(tile),

@@ -1,4 +1,9 @@
 //! Tests of sets of rows by key over a shelf in memory.
+//!
+//! - `kept.rt`: a set that stays open from call to call;
+//! - `puts.rt`: rows put in and taken away;
+//! - `sets.rt`: pages that a test lays out;
+//! - `tables.rt`: a set kept open, beside std's map.
 #![tactic(auto)]
 
 ghost use Rattle.std.specs.Prelude.{◌≡◌, ◌+◌, ◌/◌, ◌%◌, ◌∷◌, []};

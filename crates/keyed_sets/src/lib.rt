@@ -7,9 +7,14 @@
 //!
 //! The calls on one page take the page as it stands, and move no row that needn't move. A `KeyedSet` is the set over the
 //! pages of a shelf: no two pages' ranges of keys overlap, so a key belongs to one page, which is found by the first
-//! keys that are kept in memory. `seek.rt` finds a key; `put.rt` has the three ways of a put, `page_edits.rt` what they do to one
-//! page, `write.rt` what the index keeps of a page that is put back. `laws.rt` has what the words of the contracts
-//! have as maps.
+//! keys that are kept in memory.
+//!
+//! - `set.rt`, `row.rt`, `index.rt`: `KeyedSet`, the lengths of its rows, and the first keys that it keeps;
+//! - `open.rt`, `opening.rt`, `check.rt`: a set is opened: its pages are read, taken in and checked;
+//! - `seek.rt`, `get.rt`, `neighbours.rt`, `fetch.rt`: a key is found, its row, and the rows next to it, by pages that are read;
+//! - `put.rt`, `second.rt`, `remove.rt`: the three ways of a put, the second page that it may take, and a removal;
+//! - `page.rt`, `page_edits.rt`, `write.rt`: one page, what is done to its rows, and what the index keeps of a page put back;
+//! - `laws.rt`: what the words of the contracts say as maps.
 #![tactic(auto)]
 
 mod check;

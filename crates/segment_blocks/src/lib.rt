@@ -12,6 +12,12 @@
 //! Numbers are big-endian. A hole's length is a multiple of 4, and no two holes touch. A segment's length is that
 //! of its type's shape. So a body has at most one tiling, and a block that has none is known by the first offset
 //! at which no tile begins.
+//!
+//! - `tile.rt`: `Tile`, `Cell`, and why a block has no tiles;
+//! - `size.rt`: how long a cell of a shape is;
+//! - `parse.rt`: the tiles of a block;
+//! - `write.rt`: a cell or a hole written into a block;
+//! - `laws.rt`: tiles are a function of the bytes, and cells one of the offset.
 #![tactic(auto)]
 
 mod laws;

@@ -1,4 +1,7 @@
 //! Tests of what stands over sites in memory: the journal, and a volume over it.
+//!
+//! - `journal.rt`: the journal, stopped at each moment and opened again;
+//! - `volume.rt`: a volume over a journal over a site in memory.
 #![tactic(auto)]
 
 ghost use Rattle.std.specs.Prelude.{◌≡◌, ◌++◌, IfOk, replicate, slice_set};

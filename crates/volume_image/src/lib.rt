@@ -1,5 +1,8 @@
 //! What the blocks of a volume are: control rows, which say how each partition stands, and heads of data blocks, which
 //! name their data sets. The definitions go over a list of blocks: first the control blocks, then the data blocks.
+//!
+//! - `control.rt`: control rows, written and read;
+//! - `head.rt`: heads of data blocks, and whether a block is free or live.
 #![tactic(auto)]
 
 mod control;
