@@ -61,6 +61,10 @@ status session call = (decided session call).reply.status
 abbrev pub shown : Session → Call → Option (List ℕ × Option (List ℕ))
 shown session call = option_map (λ out. (out.key, out.content)) (decided session call).reply.seg
 
+-- K = 001, or K = 700 and V = zz
+abbrev pub of_three_terms : Ssa
+of_three_terms = where_is (codes "R") (is (codes "K") (codes "001") ∷ or_is (codes "K") (codes "700") ∷ is (codes "V") (codes "zz") ∷ [])
+
 pub record StatusesCome : Type 0 where
   pub blank : status all (call (codes "GU") (root_is (codes "001") ∷ [])) ≡ codes "  "
   pub ga : status (standing (at 48 (codes "001"))) (call (codes "GN") []) ≡ codes "GA"
@@ -83,8 +87,7 @@ pub record StatusesCome : Type 0 where
   pub r : (decision_of example_schema example_rows 3 all (with_data (codes "ISRT") (segment (codes "R") ∷ []) (codes "002zz"))).reply.number ≡ Some 4
 
 pub record GetsFind : Type 0 where
-  -- K = 001, or K = 700 and V = zz
-  pub and_before_or : shown all (call (codes "GU") (where_is (codes "R") (is (codes "K") (codes "001") ∷ or_is (codes "K") (codes "700") ∷ is (codes "V") (codes "zz") ∷ []) ∷ [])) ≡ Some (codes "001", Some (codes "001aa"))
+  pub and_before_or : shown all (call (codes "GU") (of_three_terms ∷ [])) ≡ Some (codes "001", Some (codes "001aa"))
   pub last_twin : shown all (call (codes "GU") (segment (codes "R") ∷ coded (segment (codes "C")) (codes "L") ∷ [])) ≡ Some (codes "00101", Some (codes "01yy"))
   pub with_levels : shown all (call (codes "GU") (coded (segment (codes "R")) (codes "D") ∷ segment (codes "C") ∷ [])) ≡ Some (codes "00101", Some (codes "001aa01xx"))
   pub padded : shown all (call (codes "GU") (root_is (codes "7") ∷ [])) ≡ None

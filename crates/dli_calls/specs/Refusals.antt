@@ -130,6 +130,9 @@ is_high_value schema clause (Some (Content f)) = is_at_root_key schema f && byte
 abbrev pub asks_high_root : Schema → Ssa → Bool
 asks_high_root schema ssa = option_map_or (λ code. code == 1) (code_named schema ssa.seg) false && length ssa.clauses == 1 && any_subject schema None (is_high_value schema) ssa
 
+abbrev pub asks_for_high_root : Schema → Call → Bool
+asks_for_high_root schema call = (is_unique call || is_insert call) && list_any (asks_high_root schema) call.ssas
+
 abbrev pub inserts_high_root : Schema → List Row → Session → Call → Bool
 inserts_high_root schema rows session call =
     let row = new_row schema rows call session no_name in is_insert call && row.code == 1 && is_none (partition_of schema (row_key schema.types row))
@@ -159,7 +162,7 @@ need_of schema rows session call = if is_insert call then need_of_insert schema 
 abbrev pub view_refusals : Schema → List Row → ℕ → Session → Call → List (Bool × List ℕ)
 view_refusals schema rows free session call =
     (has_no_data schema rows session call, codes "+L")
-    ∷ (is_none session.index && (((is_unique call || is_insert call) && list_any (asks_high_root schema) call.ssas) || inserts_high_root schema rows session call), codes "FM")
+    ∷ (is_none session.index && (asks_for_high_root schema call || inserts_high_root schema rows session call), codes "FM")
     ∷ ((finds_nothing schema rows session call && not (is_at_end schema rows session call)) || (is_insert call && not (has_parent schema rows call session)), codes "GE")
     ∷ (is_at_end schema rows session call, codes "GB")
     ∷ (is_insert call && not (has_free_key schema rows (new_row schema rows call session no_name)), codes "II")

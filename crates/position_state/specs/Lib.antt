@@ -1,5 +1,6 @@
 pub mod AfterChange
 pub mod Entries
+pub mod Examples
 pub mod Keep
 pub mod KeepLaws
 pub mod Lawful

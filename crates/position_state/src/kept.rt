@@ -5,7 +5,8 @@ ghost use Rattle.hal_schema.specs.Row.{is_new_name};
 ghost use Rattle.position_state.specs.declared.session.Anchor.TheVariants.{At};
 ghost use Rattle.position_state.specs.declared.spot.Change.TheVariants.{Delete};
 ghost use Rattle.position_state.specs.Looks.{stands_in};
-ghost use Rattle.position_state.specs.AfterChange.{AreOfList, AreUnder, IsAnchorLeft, IsCut, IsLeft, IsPlaceLeft, LooksUpTo, is_near, is_row_at, is_touched, let_go, level_at, looks_at, looks_for, looks_for_anchor, looks_for_place};
+ghost use Rattle.position_state.specs.AfterChange.{AreOfList, AreUnder, IsAnchorLeft, IsCut, IsLeft, IsPlaceLeft, LooksUpTo};
+ghost use Rattle.position_state.specs.AfterChange.{is_near, is_row_at, is_touched, let_go, level_at, looks_at, looks_for, looks_for_anchor, looks_for_place};
 
 use crate::elements::is_same_name;
 use crate::{Anchor, Change, Session, Walk, WalkFault};
