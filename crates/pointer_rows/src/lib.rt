@@ -1,11 +1,15 @@
-//! Tests of extended pointers and of the indirect list over a shelf in memory: `kept.rt` has a list that stays open,
-//! `lists.rt` and `pointers.rt` the tests.
+//! Tests of extended pointers, of the indirect list and of secondary indexes over a shelf in memory: `kept.rt` has a list
+//! that stays open, `index.rt` an index, `lists.rt`, `pointers.rt` and `indexes.rt` the tests.
 #![tactic(auto)]
 
+mod index;
 mod kept;
 
+pub use index::OpenIndex;
 pub use kept::OpenList;
 
+#[cfg(test)]
+mod indexes;
 #[cfg(test)]
 mod lists;
 #[cfg(test)]

@@ -1,2 +1,3 @@
 mod Adds
+mod InOrder
 mod RowLengths

@@ -17,7 +17,8 @@ impl Psindex {
         requires takes { IsTrue ((H.seen shelf.old).takes self.old.rows.set 2) }
         requires opened { IsOpened self.old.rows (H.seen shelf.old) }
         requires fits { FitsIndex self.old.rows entry.now }
-        ensures added { OnOk result (KeyIs false self.old.rows entry.now.key (H.seen shelf.old) × PutsIn self.old.rows (entry_row entry.now) (H.seen shelf.old) (H.seen shelf.new)) }
+        ensures not_taken { OnOk result (KeyIs false self.old.rows entry.now.key (H.seen shelf.old)) }
+        ensures added { OnOk result (PutsIn self.old.rows (entry_row entry.now) (H.seen shelf.old) (H.seen shelf.new)) }
         ensures opened { StaysOpen self.old.rows self.new.rows (H.seen shelf.new) }
         ensures leaves { Grows self.old.rows (H.steady shelf.old shelf.new) (IsErrOf result AddFault.Failed) (H.seen shelf.old) (H.seen shelf.new) }
         ensures fails { IfErr result (AddFails self.old.rows entry.now (H.seen shelf.old) (H.seen shelf.new)) }

@@ -54,13 +54,18 @@ returns-in_err-put-clause-fails g c =
     err_is c.from_residual-in_err-put.result p.0 (AddFails id entry before after) p.1
     (NotPut _ p.2 (fails_put id c.get.new.self (entry_row entry) _ before mid after _ c.put.result c.get.ensures.kept.0 (row_is entry c.as_slice-3.result.now c.as_slice-4.result.now c.as_slice-2.result.now c.as_slice-3.ensures (c.as_slice-4.ensures ∙ c.in_ok-body.ensures) c.as_slice-2.ensures) c.get.ensures.leaves.same c.in_err-put.was c.put.ensures.fails))
 
+pub returns-clause-not_taken : goal.returns-clause-not_taken
+returns-clause-not_taken g c =
+    let id = c.args.self.now.rows in
+    let entry = c.args.entry.now in
+    let before = g.H.Shelf.seen c.args.shelf.now in
+    key_is false id entry.key before c.in_ok-get.field-0 (subst (λ k. Finds id before k c.in_ok-get.field-0) c.as_slice.ensures c.in_ok-get.ensures.found) (sym c.is_some.ensures ∙ c.if-is_some.false)
+
 pub returns-clause-added : goal.returns-clause-added
 returns-clause-added g c =
     let id = c.args.self.now.rows in
     let entry = c.args.entry.now in
     let before = g.H.Shelf.seen c.args.shelf.now in
     let mid = g.H.Shelf.seen c.get.new.shelf in
-    let after = g.H.Shelf.seen c.put.new.shelf in (
-      key_is false id entry.key before c.in_ok-get.field-0 (subst (λ k. Finds id before k c.in_ok-get.field-0) c.as_slice.ensures c.in_ok-get.ensures.found) (sym c.is_some.ensures ∙ c.if-is_some.false),
-      puts_after id c.get.new.self (entry_row entry) _ before mid after c.get.ensures.kept.0 (row_is entry c.as_slice-3.result.now c.as_slice-4.result.now c.as_slice-2.result.now c.as_slice-3.ensures (c.as_slice-4.ensures ∙ c.in_ok-body.ensures) c.as_slice-2.ensures) c.get.ensures.leaves.same c.in_ok-put.ensures.puts,
-    )
+    let after = g.H.Shelf.seen c.put.new.shelf in
+    puts_after id c.get.new.self (entry_row entry) _ before mid after c.get.ensures.kept.0 (row_is entry c.as_slice-3.result.now c.as_slice-4.result.now c.as_slice-2.result.now c.as_slice-3.ensures (c.as_slice-4.ensures ∙ c.in_ok-body.ensures) c.as_slice-2.ensures) c.get.ensures.leaves.same c.in_ok-put.ensures.puts
