@@ -18,3 +18,4 @@ pub mod InOneSide
 pub mod ChangedSides
 pub mod FirstChildren
 pub mod ExampleChanges
+mod OrderedCodes

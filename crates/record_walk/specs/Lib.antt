@@ -17,3 +17,4 @@ pub mod Firsts
 pub mod OneProof
 pub mod Examples
 pub mod ChangeExamples
+pub mod Orders

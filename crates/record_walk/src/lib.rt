@@ -12,6 +12,10 @@
 //! each with its home; `Pointers` what a changed pointer makes of it; `Side` which cells and rows of a root set are a side,
 //! part by part of the rules of a sound volume.
 //!
+//! The laws: `walk`, `listed`, `records`, `named`, `firsts`, `root_rows` of changed pointers, in cells and in lists;
+//! `parents`, `siblings`, `orders` of the sequence; `side_changes`, `one_proof` of a side; `volume`, `one_side`,
+//! `in_records` of all sides together; `examples` has sides of three levels.
+//!
 //! Each law is the contract of a function without code; a proof above calls it and has the law.
 #![tactic(auto)]
 
@@ -22,6 +26,7 @@ mod listed;
 mod named;
 mod one_proof;
 mod one_side;
+mod orders;
 mod parents;
 mod records;
 mod root_rows;
@@ -40,6 +45,7 @@ pub use listed::{
 pub use named::{homes_are_names, inserted_between, new_twins_are_inserted};
 pub use one_proof::sides_have_one_proof;
 pub use one_side::changes_of_one_side;
+pub use orders::{child_codes_rise, roots_go_by_key};
 pub use parents::parents_stand_first;
 pub use records::{cuts_keep_records, new_segments_keep_records, replaced_content_keeps_records};
 pub use root_rows::{homes_are_listed, rows_come_and_go, seen_follows};
