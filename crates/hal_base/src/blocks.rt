@@ -37,6 +37,7 @@ pub trait Blocks: Live {
         ensures list { OnOk result ((seen self.new).list ≡ option_map (λ blocks. slice_set blocks n from.now) (seen self.old).list) }
         ensures unchanged { OnErr result (((seen self.new).list ≡ (seen self.old).list) × ((seen self.new).clean ≡ (seen self.old).clean)) }
         ensures leaves { SameStore (seen self.old) (seen self.new) × steady self.old self.new }
+        ensures fetches { (seen self.new).fetches ≡ (seen self.old).fetches }
         ensures faults { Fails (IsErrOf result StageFault.Failed) (seen self.old).disk_faults (seen self.new).disk_faults (seen self.new).live };
 
     ghost alive: { (blocks : Self) → (seen blocks).live ≡ Self.live blocks };
