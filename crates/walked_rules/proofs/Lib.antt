@@ -1,0 +1,2 @@
+pub mod OnViews
+pub mod RowsOfWalks

@@ -1,0 +1,58 @@
+-- Partitions whose live sides are walked keep the rules 4, 5 and 7 in the words of those rules that need no walk; and their list is one.
+use Rattle.std.specs.Prelude.{◌≡◌, ℕ, true, List, ◌∷◌, ◌++◌, None, Some, map}
+use Rattle.std.specs.List.{list_all, slice_get, AllByRecursion}
+use Rattle.hal_schema.specs.declared.schema.IndexDef.{IndexDef}
+use Rattle.hal_schema.specs.declared.schema.Schema.{Schema}
+use Rattle.hal_schema.specs.Entry.{entries_of}
+use Rattle.hal_schema.specs.Forest.{all_pairs, names_apart}
+use Rattle.record_walk.specs.Listing.{list_in, rows_of}
+use Rattle.record_walk.specs.InRecords.{hangs_by}
+use Rattle.record_walk.specs.OneSide.{rows_in, rows_in_all}
+use Rattle.record_walk.specs.Siblings.{twins_follow_in}
+use Rattle.volume_rules.specs.View.{is_live}
+use Rattle.volume_rules.specs.Rules.{KeepsRule6}
+use Rattle.volume_rules.specs.Volume.{IndexRow, RowsStand, forest_of}
+use Rattle.volume_rules.specs.Sides.{KeepsRule4, KeepsRule7}
+use Rattle.volume_rules.specs.SideForest.{sides_of}
+use Rattle.walked_rules.specs.Parts.{WalkedPart, IsWalkedPart, view_of, root_sets_of, all_sides, volume_of}
+
+-- rule 5: the rows are exactly the segments that stand, each at its home
+abbrev pub WalkedRowsStand : Type 0
+WalkedRowsStand = (schema : Schema) (p : WalkedPart) → IsWalkedPart schema p → RowsStand (view_of p)
+
+-- rule 4, of the partition that the schema has at this place
+abbrev pub WalkedPartsKeepRule4 : Type 0
+WalkedPartsKeepRule4 = (schema : Schema) (p : WalkedPart) → IsWalkedPart schema p → slice_get schema.parts p.place ≡ Some p.part
+    → KeepsRule4 schema (view_of p) (root_sets_of p)
+
+-- the names of each live side differ
+abbrev pub NamesDiffer : WalkedPart → Type 0
+NamesDiffer p = (number : ℕ) → is_live p.state number ≡ true → all_pairs names_apart (rows_of (list_in None (p.trees number))) ≡ true
+
+-- which rule 6 says
+abbrev pub WalkedNamesDiffer : Type 0
+WalkedNamesDiffer = (schema : Schema) (p : WalkedPart) → IsWalkedPart schema p → KeepsRule6 (view_of p) → NamesDiffer p
+
+-- the twins of each chain of the live sides stand in order
+abbrev pub TwinsFollow : Schema → WalkedPart → Type 0
+TwinsFollow schema p = (number : ℕ) → is_live p.state number ≡ true → twins_follow_in schema (p.trees number) ≡ true
+
+-- rule 7: roots belong to the partition, and any two twins of a side stand in order
+abbrev pub WalkedPartsKeepRule7 : Type 0
+WalkedPartsKeepRule7 = (schema : Schema) (p : WalkedPart) → IsWalkedPart schema p → NamesDiffer p → TwinsFollow schema p → KeepsRule7 schema p.place (view_of p)
+
+-- the sides of the volume, and their list, are those of the walks
+pub record ListsWalks (parts : List WalkedPart) (indexes : List (List IndexRow)) : Type 0 where
+  pub sides : sides_of (volume_of parts indexes) ≡ map rows_in (all_sides parts)
+  pub list : forest_of (volume_of parts indexes) ≡ rows_in_all (all_sides parts)
+
+abbrev pub WalksAreListed : Type 0
+WalksAreListed = (parts : List WalkedPart) (indexes : List (List IndexRow)) → ListsWalks parts indexes
+
+-- An entry's root key is that of the record in which the row of its target's name stands, in whichever partition and generation that is.
+abbrev pub WalkedEntriesHang : Type 0
+WalkedEntriesHang = (schema : Schema) (front behind : List WalkedPart) (p : WalkedPart) (indexes : List (List IndexRow)) (index : IndexDef) (number : ℕ)
+    → AllByRecursion (IsWalkedPart schema) (front ++ p ∷ behind)
+    → all_pairs names_apart (forest_of (volume_of (front ++ p ∷ behind) indexes)) ≡ true
+    → list_all (λ entry. list_all (hangs_by schema.types (λ r. r.addr) (λ r. r.row) ((view_of p).rows number) entry) ((view_of p).rows number))
+    (entries_of schema.types index (forest_of (volume_of (front ++ p ∷ behind) indexes))) ≡ true

@@ -1,0 +1,11 @@
+//! What the walk of the sides of a partition gives to the rules that need no walk: laws from `record_walk`'s chains of cells
+//! to `volume_rules`' segments, rows and root sets. There is no code here.
+//!
+//! - `specs/Parts.antt`: a partition as chains of cells, and the view that it is to the rules;
+//! - `specs/Laws.antt`: what such a view keeps;
+//! - `rows.rt`: the laws.
+#![tactic(auto)]
+
+mod rows;
+
+pub use rows::walked_rows_stand;
