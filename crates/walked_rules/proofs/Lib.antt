@@ -1,2 +1,4 @@
 pub mod OnViews
 pub mod RowsOfWalks
+pub mod RootsOfWalks
+pub mod RulesOfWalks

@@ -1,5 +1,5 @@
 -- What stands in the view of a walked partition, and tests of its rows.
-use Rattle.std.proofs.Common.{◌≡◌, ℕ, ◌==◌, Bool, true, false, not, cond, ◌&&◌, ◌||◌, List, [], ◌∷◌, map, Option, None, Some, refl, ap, ◌∙◌}
+use Rattle.std.proofs.Common.{◌≡◌, ℕ, Bool, true, false, cond, ◌&&◌, ◌||◌, List, [], ◌∷◌, map, Option, None, Some, refl, ap, ◌∙◌}
 use Rattle.std.specs.List.{list_all, list_any}
 use Rattle.std.specs.Option.{option_map, option_map_or}
 use Rattle.hal_schema.specs.declared.row.Row.{Row}
@@ -7,7 +7,7 @@ use Rattle.hal_schema.specs.Forest.{all_pairs}
 use Rattle.segment_blocks.specs.declared.tile.Cell.{Cell}
 use Rattle.record_walk.specs.Listing.{Placed, list_in}
 use Rattle.record_walk.specs.InRecords.{is_cell_of}
-use Rattle.volume_rules.specs.View.{Home, Homed, Segment, View, is_live}
+use Rattle.volume_rules.specs.View.{Home, Homed, Segment, is_live}
 use Rattle.volume_rules.specs.Volume.{is_segment_of}
 use Rattle.walked_rules.specs.Parts.{WalkedPart, segment_of, homed, view_of}
 

@@ -1,14 +1,14 @@
 -- The rows of a walked partition are its segments.
-use Rattle.std.proofs.Common.{◌≡◌, ℕ, ◌==◌, Bool, true, false, not, List, Option, None, Some, refl, sym, ap, ◌∙◌}
+use Rattle.std.proofs.Common.{◌≡◌, ℕ, ◌==◌, true, false, not, None, refl, ap, ◌∙◌}
 use Rattle.std.specs.List.{list_all, list_any}
 use Rattle.std.specs.Option.{option_map_or}
 use Rattle.hal_schema.specs.Forest.{all_pairs}
 use Rattle.forest_laws.proofs.Lists.{all_weaker}
-use Rattle.record_walk.specs.Listing.{Placed, list_in}
+use Rattle.record_walk.specs.Listing.{list_in}
 use Rattle.record_walk.specs.InRecords.{is_cell_of, SidesListTheirCells, ListsItsCells}
-use Rattle.volume_rules.specs.View.{Home, Homed, Segment, Stands, is_live}
+use Rattle.volume_rules.specs.View.{Homed, Segment, is_live}
 use Rattle.volume_rules.specs.Volume.{is_segment_of, stands_in}
-use Rattle.walked_rules.specs.Parts.{WalkedPart, IsWalkedPart, segment_of, homed, view_of}
+use Rattle.walked_rules.specs.Parts.{homed, view_of}
 use Rattle.walked_rules.specs.Laws.{WalkedRowsStand}
 use Rattle.walked_rules.proofs.OnViews.{segment_at, rows_at, cell_of, all_homed, any_homed, pairs_homed, in_live, stands_so}
 

@@ -8,4 +8,6 @@
 
 mod rows;
 
-pub use rows::walked_rows_stand;
+pub use rows::{
+    walked_names_differ, walked_parts_keep_rule_4, walked_parts_keep_rule_7, walked_rows_stand,
+};
