@@ -2,3 +2,4 @@ pub mod OnViews
 pub mod RowsOfWalks
 pub mod RootsOfWalks
 pub mod RulesOfWalks
+pub mod ListsOfWalks

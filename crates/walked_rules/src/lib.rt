@@ -3,11 +3,13 @@
 //!
 //! - `specs/Parts.antt`: a partition as chains of cells, and the view that it is to the rules;
 //! - `specs/Laws.antt`: what such a view keeps;
-//! - `rows.rt`: the laws.
+//! - `rows.rt`, `volume.rt`: the laws, of one partition and of all.
 #![tactic(auto)]
 
 mod rows;
+mod volume;
 
 pub use rows::{
     walked_names_differ, walked_parts_keep_rule_4, walked_parts_keep_rule_7, walked_rows_stand,
 };
+pub use volume::{walked_entries_hang, walks_are_listed};
