@@ -3,3 +3,5 @@ pub mod RowsOfWalks
 pub mod RootsOfWalks
 pub mod RulesOfWalks
 pub mod ListsOfWalks
+pub mod TargetsOfEntries
+pub mod ExampleParts

@@ -1,15 +1,20 @@
 -- Partitions whose live sides are walked keep the rules 4, 5 and 7 in the words of those rules that need no walk; and their list is one.
-use Rattle.std.specs.Prelude.{◌≡◌, ℕ, true, List, ◌∷◌, ◌++◌, None, Some, map}
+use Rattle.std.specs.Prelude.{◌≡◌, ℕ, Bool, true, false, not, ◌||◌, List, ◌∷◌, ◌++◌, None, Some, map}
 use Rattle.std.specs.List.{list_all, slice_get, AllByRecursion}
+use Rattle.std.specs.Option.{option_map_or}
+use Rattle.std.specs.Str.{bytes_eq}
 use Rattle.hal_schema.specs.declared.schema.IndexDef.{IndexDef}
 use Rattle.hal_schema.specs.declared.schema.Schema.{Schema}
-use Rattle.hal_schema.specs.Entry.{entries_of}
+use Rattle.hal_schema.specs.declared.schema.SegType.{SegType}
+use Rattle.hal_schema.specs.Entry.{Entry, entries_of}
 use Rattle.hal_schema.specs.Forest.{all_pairs, names_apart}
+use Rattle.hal_schema.specs.Row.{row_key}
 use Rattle.record_walk.specs.Listing.{list_in, rows_of}
-use Rattle.record_walk.specs.InRecords.{hangs_by}
+use Rattle.record_walk.specs.InRecords.{root_above, hangs_by}
 use Rattle.record_walk.specs.OneSide.{rows_in, rows_in_all}
 use Rattle.record_walk.specs.Siblings.{twins_follow_in}
-use Rattle.volume_rules.specs.View.{is_live}
+use Rattle.volume_rules.specs.View.{Home, View, is_live}
+use Rattle.volume_rules.specs.Target.{bears}
 use Rattle.volume_rules.specs.Rules.{KeepsRule6}
 use Rattle.volume_rules.specs.Volume.{IndexRow, RowsStand, forest_of}
 use Rattle.volume_rules.specs.Sides.{KeepsRule4, KeepsRule7}
@@ -56,3 +61,16 @@ WalkedEntriesHang = (schema : Schema) (front behind : List WalkedPart) (p : Walk
     → all_pairs names_apart (forest_of (volume_of (front ++ p ∷ behind) indexes)) ≡ true
     → list_all (λ entry. list_all (hangs_by schema.types (λ r. r.addr) (λ r. r.row) ((view_of p).rows number) entry) ((view_of p).rows number))
     (entries_of schema.types index (forest_of (volume_of (front ++ p ∷ behind) indexes))) ≡ true
+
+-- where a segment of an entry's target's name and code stands at a home, it stands in the record of the entry's root key
+abbrev pub leads_to_record : List SegType → View → Home → ℕ → Entry → Bool
+leads_to_record types view home code entry =
+    not (bears view entry.target code home)
+    || option_map_or (λ root. bytes_eq (row_key types root) entry.root) (root_above (λ r. r.addr) (λ r. r.row) None (view.rows home.number) home.addr) false
+
+-- so it is of each entry of the volume's list and of each home
+abbrev pub WalkedTargetsHang : Type 0
+WalkedTargetsHang = (schema : Schema) (front behind : List WalkedPart) (p : WalkedPart) (indexes : List (List IndexRow)) (index : IndexDef) (home : Home)
+    → AllByRecursion (IsWalkedPart schema) (front ++ p ∷ behind)
+    → all_pairs names_apart (forest_of (volume_of (front ++ p ∷ behind) indexes)) ≡ true
+    → list_all (leads_to_record schema.types (view_of p) home index.target) (entries_of schema.types index (forest_of (volume_of (front ++ p ∷ behind) indexes))) ≡ true

@@ -3,13 +3,16 @@
 //!
 //! - `specs/Parts.antt`: a partition as chains of cells, and the view that it is to the rules;
 //! - `specs/Laws.antt`: what such a view keeps;
-//! - `rows.rt`, `volume.rt`: the laws, of one partition and of all.
+//! - `rows.rt`, `volume.rt`: the laws, of one partition and of all;
+//! - `specs/Examples.antt`, `examples.rt`: partitions that there are.
 #![tactic(auto)]
 
+mod examples;
 mod rows;
 mod volume;
 
+pub use examples::walked_examples;
 pub use rows::{
     walked_names_differ, walked_parts_keep_rule_4, walked_parts_keep_rule_7, walked_rows_stand,
 };
-pub use volume::{walked_entries_hang, walks_are_listed};
+pub use volume::{walked_entries_hang, walked_targets_hang, walks_are_listed};
