@@ -3,5 +3,6 @@ pub mod RowsOfWalks
 pub mod RootsOfWalks
 pub mod RulesOfWalks
 pub mod ListsOfWalks
+pub mod SidesOfWalks
 pub mod TargetsOfEntries
 pub mod ExampleParts

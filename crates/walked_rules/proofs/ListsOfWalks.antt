@@ -27,10 +27,10 @@ use Rattle.walked_rules.proofs.OnViews.{rows_at, all_homed}
 
 -- ---- live generations
 
-own_lives : (p : WalkedPart) → is_live p.state p.state.number ≡ true
+pub own_lives : (p : WalkedPart) → is_live p.state p.state.number ≡ true
 own_lives p = ap (λ (b : Bool). b || is_moving p.state && p.state.number == p.state.number + 1) (eq-eqb p.state.number p.state.number refl)
 
-output_lives : (p : WalkedPart) → is_moving p.state ≡ true → is_live p.state (p.state.number + 1) ≡ true
+pub output_lives : (p : WalkedPart) → is_moving p.state ≡ true → is_live p.state (p.state.number + 1) ≡ true
 output_lives p e =
     or_right (p.state.number + 1 == p.state.number) (is_moving p.state && p.state.number + 1 == p.state.number + 1)
     (ap (λ (b : Bool). b && p.state.number + 1 == p.state.number + 1) e ∙ eq-eqb (p.state.number + 1) (p.state.number + 1) refl)
@@ -55,7 +55,7 @@ rows_end (x ∷ xs) = ap (λ l. x.row ∷ l) (rows_end xs)
 live_rows : (p : WalkedPart) (number : ℕ) → is_live p.state number ≡ true → map row_of ((view_of p).rows number) ≡ rows_in (side_at p number)
 live_rows p number live = ap (map row_of) (rows_at p number live) ∙ unhomed (list_in None (p.trees number))
 
-part_sides : (p : WalkedPart) → sides_in (view_of p) ≡ map rows_in (live_sides p)
+pub part_sides : (p : WalkedPart) → sides_in (view_of p) ≡ map rows_in (live_sides p)
 part_sides p = by (is_moving p.state) refl
   where
     n : ℕ

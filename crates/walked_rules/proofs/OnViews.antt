@@ -1,9 +1,11 @@
 -- What stands in the view of a walked partition, and tests of its rows.
-use Rattle.std.proofs.Common.{◌≡◌, ℕ, Bool, true, false, cond, ◌&&◌, ◌||◌, List, [], ◌∷◌, map, Option, None, Some, refl, ap, ◌∙◌}
+use Rattle.std.proofs.Common.{◌≡◌, ℕ, Bool, true, false, cond, ◌&&◌, ◌||◌, List, [], ◌∷◌, map, Option, None, Some, inl, inr, refl, ap, ◌∙◌}
 use Rattle.std.specs.List.{list_all, list_any}
 use Rattle.std.specs.Option.{option_map, option_map_or}
+use Rattle.std.proofs.lemmas.Bool.{false≢true}
 use Rattle.hal_schema.specs.declared.row.Row.{Row}
 use Rattle.hal_schema.specs.Forest.{all_pairs}
+use Rattle.forest_laws.proofs.Lists.{Among}
 use Rattle.segment_blocks.specs.declared.tile.Cell.{Cell}
 use Rattle.record_walk.specs.Listing.{Placed, list_in}
 use Rattle.record_walk.specs.InRecords.{is_cell_of}
@@ -65,3 +67,18 @@ in_live p test none number live = by (is_live p.state number) refl
 pub stands_so : (row : Row) (o : Option Cell) → option_map_or (is_segment_of row) (option_map segment_of o) false ≡ option_map_or (is_cell_of row) o false
 stands_so row None = refl
 stands_so row (Some cell) = refl
+
+-- ---- an item that passes
+
+pub record Passing {X : Type 0} (test : X → Bool) (xs : List X) : Type 0 where
+  pub item : X
+  pub among : Among item xs
+  pub passes : test item ≡ true
+
+pub passing : {X : Type 0} (test : X → Bool) (xs : List X) → list_any test xs ≡ true → Passing test xs
+passing test [] h = absurd (false≢true h)
+passing test (x ∷ xs) h = by (test x) refl h (passing test xs)
+  where
+    by : (b : Bool) → test x ≡ b → (b || list_any test xs) ≡ true → (list_any test xs ≡ true → Passing test xs) → Passing test (x ∷ xs)
+    by true e h later = record { item = x; among = inl refl; passes = e }
+    by false e h later = let p = later h in record { item = p.item; among = inr p.among; passes = p.passes }

@@ -1,5 +1,5 @@
 -- A walked partition keeps the rules 4 and 7.
-use Rattle.std.proofs.Common.{◌≡◌, ℕ, ◌==◌, Bool, true, false, not, cond, ◌&&◌, ◌||◌, List, [], ◌∷◌, length, Option, None, Some, inl, inr, refl, sym, ap, ◌∙◌}
+use Rattle.std.proofs.Common.{◌≡◌, ℕ, ◌==◌, Bool, true, false, not, cond, ◌&&◌, List, [], ◌∷◌, length, Option, None, Some, refl, sym, ap, ◌∙◌}
 use Rattle.std.specs.Prelude.{unwrap_or}
 use Rattle.std.specs.Cmp.{IsTotalOrder}
 use Rattle.std.specs.Int.{w32, to_be_bytes}
@@ -28,24 +28,8 @@ use Rattle.volume_rules.specs.Volume.{stands_in}
 use Rattle.volume_rules.specs.Sides.{root_row_key, is_root_under, leads_to_root}
 use Rattle.walked_rules.specs.Parts.{WalkedPart, IsWalkedPart, homed, view_of, root_sets_of}
 use Rattle.walked_rules.specs.Laws.{WalkedRowsStand, WalkedPartsKeepRule4, WalkedNamesDiffer, WalkedPartsKeepRule7}
-use Rattle.walked_rules.proofs.OnViews.{rows_at, cell_of, all_homed, any_homed, pairs_homed, in_live}
+use Rattle.walked_rules.proofs.OnViews.{passing, rows_at, cell_of, all_homed, any_homed, pairs_homed, in_live}
 use Rattle.walked_rules.proofs.RootsOfWalks.{roots_listed, root_rows, home_under, row_leads, root_has_row}
-
--- ---- a row at its home
-
--- the row at a home
-pub record RowAt (list : List Placed) (home : ℕ) : Type 0 where
-  pub row : Placed
-  pub among : Among row list
-  pub at : row.home ≡ home
-
-pub row_at : (list : List Placed) (home : ℕ) → list_any (λ p. p.home == home) list ≡ true → RowAt list home
-row_at [] home h = absurd (false≢true h)
-row_at (p ∷ list) home h = by (p.home == home) refl h (row_at list home)
-  where
-    by : (b : Bool) → (p.home == home) ≡ b → (b || list_any (λ q. q.home == home) list) ≡ true → (list_any (λ q. q.home == home) list ≡ true → RowAt list home) → RowAt (p ∷ list) home
-    by true e h later = record { row = p; among = inl refl; at = eqb-true p.home home e }
-    by false e h later = let r = later h in record { row = r.row; among = inr r.among; at = r.at }
 
 -- ---- keys
 
@@ -92,18 +76,19 @@ module _ (kept : SchemasAreKept) (rows : WalkedRowsStand) (schema : Schema) (p :
   root_at : (home : Home) (s : Segment) → Stands (view_of p) home s → s.code ≡ 1 → RootAt schema p home s
   root_at home s stands code =
       let live = (cell_of p home s stands.here).live in
-      let r = row_at (list_in None (p.trees home.number)) home.addr
+      let r = passing (λ q. q.home == home.addr) (list_in None (p.trees home.number))
       (sym (any_homed (λ q. q.addr == home.addr) (list_in None (p.trees home.number))) ∙ ap (list_any (λ (q : Homed). q.addr == home.addr)) (sym (rows_at p home.number live)) ∙ (rows schema p walked).met home s stands) in
-      let a = at_row (view_of p) home.number home.addr (homed r.row) (stands_at home.number live r.row r.among) r.at in
+      let at : r.item.home ≡ home.addr = eqb-true r.item.home home.addr r.passes in
+      let a = at_row (view_of p) home.number home.addr (homed r.item) (stands_at home.number live r.item r.among) at in
       let is : a.s ≡ s = same_some a.s s (sym a.here ∙ stands.here) in
-      let one : s.code ≡ r.row.row.code = ap (λ (x : Segment). x.code) (sym is) ∙ a.words.code in
-      let text : s.content ≡ r.row.row.content = ap (λ (x : Segment). x.content) (sym is) ∙ a.words.content in
-      let h = root_rows kept schema (p.trees home.number) (walked home.number live).walked.typed r.row r.among (sym one ∙ code) in
+      let one : s.code ≡ r.item.row.code = ap (λ (x : Segment). x.code) (sym is) ∙ a.words.code in
+      let text : s.content ≡ r.item.row.content = ap (λ (x : Segment). x.content) (sym is) ∙ a.words.content in
+      let h = root_rows kept schema (p.trees home.number) (walked home.number live).walked.typed r.item r.among (sym one ∙ code) in
       record {
         live = live;
         root = h.root;
         among = h.among;
-        at = ap (λ (q : Placed). q.home) h.is ∙ r.at;
+        at = ap (λ (q : Placed). q.home) h.is ∙ at;
         key = key_is schema h.root s (one ∙ ap (λ (q : Placed). q.row.code) (sym h.is)) (text ∙ ap (λ (q : Placed). q.row.content) (sym h.is));
       }
 

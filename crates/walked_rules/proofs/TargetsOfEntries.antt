@@ -1,13 +1,13 @@
 -- The target of an entry stands in the record of the entry's root key.
-use Rattle.std.proofs.Common.{◌≡◌, ℕ, ◌==◌, Bool, true, false, not, ◌&&◌, ◌||◌, List, [], ◌∷◌, ◌++◌, Option, None, Some, inl, inr, refl, sym, ap, ◌∙◌}
-use Rattle.std.specs.List.{list_all, list_any, AllByRecursion}
+use Rattle.std.proofs.Common.{◌≡◌, ℕ, ◌==◌, Bool, true, false, not, ◌&&◌, ◌||◌, List, [], ◌∷◌, ◌++◌, Option, None, Some, refl, sym, ap, ◌∙◌}
+use Rattle.std.specs.List.{list_all, AllByRecursion}
 use Rattle.std.specs.Option.{option_map_or}
 use Rattle.std.specs.Str.{bytes_eq}
 use Rattle.std.proofs.lemmas.Bool.{eqb-true, and_parts, not-true, false≢true}
 use Rattle.hal_schema.specs.declared.schema.SegType.{SegType}
 use Rattle.hal_schema.specs.Entry.{Entry, entries_of}
 use Rattle.hal_schema.specs.Row.{same_name, row_key}
-use Rattle.forest_laws.proofs.Lists.{Among, among_passes, all_weaker}
+use Rattle.forest_laws.proofs.Lists.{among_passes, all_weaker}
 use Rattle.forest_laws.proofs.Names.{same_some}
 use Rattle.record_walk.specs.InRecords.{root_above, hangs_by}
 use Rattle.volume_rules.specs.View.{Home, Homed, Segment, View}
@@ -15,21 +15,8 @@ use Rattle.volume_rules.specs.Target.{is_own, bears}
 use Rattle.volume_rules.specs.Volume.{RowsStand, stands_in, forest_of}
 use Rattle.volume_rules.proofs.SidesKept.{at_row}
 use Rattle.walked_rules.specs.Parts.{WalkedPart, IsWalkedPart, view_of, volume_of}
+use Rattle.walked_rules.proofs.OnViews.{passing}
 use Rattle.walked_rules.specs.Laws.{WalkedRowsStand, WalkedEntriesHang, leads_to_record, WalkedTargetsHang}
-
--- the row at an address
-record RowAt (rows : List Homed) (addr : ℕ) : Type 0 where
-  pub row : Homed
-  pub among : Among row rows
-  pub at : row.addr ≡ addr
-
-row_at : (rows : List Homed) (addr : ℕ) → list_any (λ r. r.addr == addr) rows ≡ true → RowAt rows addr
-row_at [] addr h = absurd (false≢true h)
-row_at (r ∷ rows) addr h = by (r.addr == addr) refl h (row_at rows addr)
-  where
-    by : (b : Bool) → (r.addr == addr) ≡ b → (b || list_any (λ q. q.addr == addr) rows) ≡ true → (list_any (λ q. q.addr == addr) rows ≡ true → RowAt rows addr) → RowAt (r ∷ rows) addr
-    by true e h later = record { row = r; among = inl refl; at = eqb-true r.addr addr e }
-    by false e h later = let x = later h in record { row = x.row; among = inr x.among; at = x.at }
 
 -- the segment that bears a name
 record Bearing (view : View) (home : Home) (entry : Entry) : Type 0 where
@@ -59,12 +46,13 @@ leads types view rows home code entry hang = by (bears view entry.target code ho
     by false e = refl
     by true e =
         let t = bearing view home entry code e in
-        let r = row_at (view.rows home.number) home.addr (rows.met home t.s (record { here = t.here; uncopied = t.uncopied })) in
-        let a = at_row view home.number home.addr r.row (among_passes (stands_in view home.number) r.row (view.rows home.number) r.among (rows.stand home.number)) r.at in
+        let r = passing (λ q. q.addr == home.addr) (view.rows home.number) (rows.met home t.s (record { here = t.here; uncopied = t.uncopied })) in
+        let at : r.item.addr ≡ home.addr = eqb-true r.item.addr home.addr r.passes in
+        let a = at_row view home.number home.addr r.item (among_passes (stands_in view home.number) r.item (view.rows home.number) r.among (rows.stand home.number)) at in
         let same : t.s ≡ a.s = same_some t.s a.s (sym t.here ∙ a.here) in
-        let named : same_name r.row.row.name entry.target ≡ true = ap (λ n. same_name n entry.target) (sym (ap (λ (s : Segment). s.name) same ∙ a.words.name)) ∙ t.named in
-        let own = among_passes (hangs_by types (λ (q : Homed). q.addr) (λ (q : Homed). q.row) (view.rows home.number) entry) r.row (view.rows home.number) r.among hang in
-        ap (key_above types view entry home.number) (sym r.at) ∙ sym (ap (λ (b : Bool). not b || key_above types view entry home.number r.row.addr) named) ∙ own
+        let named : same_name r.item.row.name entry.target ≡ true = ap (λ n. same_name n entry.target) (sym (ap (λ (s : Segment). s.name) same ∙ a.words.name)) ∙ t.named in
+        let own = among_passes (hangs_by types (λ (q : Homed). q.addr) (λ (q : Homed). q.row) (view.rows home.number) entry) r.item (view.rows home.number) r.among hang in
+        ap (key_above types view entry home.number) (sym at) ∙ sym (ap (λ (b : Bool). not b || key_above types view entry home.number r.item.addr) named) ∙ own
 
 pub walked_targets_hang : WalkedRowsStand → WalkedEntriesHang → WalkedTargetsHang
 walked_targets_hang rows hang schema front behind p indexes index home walks names =

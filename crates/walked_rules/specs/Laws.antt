@@ -7,7 +7,7 @@ use Rattle.hal_schema.specs.declared.schema.IndexDef.{IndexDef}
 use Rattle.hal_schema.specs.declared.schema.Schema.{Schema}
 use Rattle.hal_schema.specs.declared.schema.SegType.{SegType}
 use Rattle.hal_schema.specs.Entry.{Entry, entries_of}
-use Rattle.hal_schema.specs.Forest.{all_pairs, names_apart}
+use Rattle.hal_schema.specs.Forest.{all_pairs, names_apart, has_length}
 use Rattle.hal_schema.specs.Row.{row_key}
 use Rattle.record_walk.specs.Listing.{list_in, rows_of}
 use Rattle.record_walk.specs.InRecords.{root_above, hangs_by}
@@ -15,10 +15,10 @@ use Rattle.record_walk.specs.OneSide.{rows_in, rows_in_all}
 use Rattle.record_walk.specs.Siblings.{twins_follow_in}
 use Rattle.volume_rules.specs.View.{Home, View, is_live}
 use Rattle.volume_rules.specs.Target.{bears}
-use Rattle.volume_rules.specs.Rules.{KeepsRule6}
+use Rattle.volume_rules.specs.Rules.{KeepsRule6, KeepsRule10}
 use Rattle.volume_rules.specs.Volume.{IndexRow, RowsStand, forest_of}
 use Rattle.volume_rules.specs.Sides.{KeepsRule4, KeepsRule7}
-use Rattle.volume_rules.specs.SideForest.{sides_of}
+use Rattle.volume_rules.specs.SideForest.{sides_of, has_its_cursor, KeepsSides}
 use Rattle.walked_rules.specs.Parts.{WalkedPart, IsWalkedPart, view_of, root_sets_of, all_sides, volume_of}
 
 -- rule 5: the rows are exactly the segments that stand, each at its home
@@ -74,3 +74,22 @@ WalkedTargetsHang = (schema : Schema) (front behind : List WalkedPart) (p : Walk
     → AllByRecursion (IsWalkedPart schema) (front ++ p ∷ behind)
     → all_pairs names_apart (forest_of (volume_of (front ++ p ∷ behind) indexes)) ≡ true
     → list_all (leads_to_record schema.types (view_of p) home index.target) (entries_of schema.types index (forest_of (volume_of (front ++ p ∷ behind) indexes))) ≡ true
+
+-- each content of a live side has the length of its type
+abbrev pub LengthsAreKept : Schema → WalkedPart → Type 0
+LengthsAreKept schema p = (number : ℕ) → is_live p.state number ≡ true → list_all (has_length schema.types) (rows_of (list_in None (p.trees number))) ≡ true
+
+-- What the rules say of a walked partition beside its walks: its definition and its number, the kind of its cursor, the rules 6 and 10, the order of the
+-- twins of each chain, and the lengths of contents.
+pub record KeepsTheRest (schema : Schema) (p : WalkedPart) : Type 0 where
+  pub defined : slice_get schema.parts p.place ≡ Some p.part
+  pub numbered : p.state.part ≡ p.part.number
+  pub cursor : has_its_cursor schema.phdam p.state.cursor ≡ true
+  pub rule6 : KeepsRule6 (view_of p)
+  pub rule10 : KeepsRule10 schema.types (view_of p)
+  pub twins : TwinsFollow schema p
+  pub lengths : LengthsAreKept schema p
+
+-- then each side is in hierarchic sequence, and of such partitions the sides are a forest (`sides_are_a_forest`)
+abbrev pub WalkedSidesAreKept : Type 0
+WalkedSidesAreKept = (schema : Schema) (p : WalkedPart) → IsWalkedPart schema p → KeepsTheRest schema p → KeepsSides schema p.place (view_of p)

@@ -14,5 +14,6 @@ mod volume;
 pub use examples::walked_examples;
 pub use rows::{
     walked_names_differ, walked_parts_keep_rule_4, walked_parts_keep_rule_7, walked_rows_stand,
+    walked_sides_are_kept,
 };
 pub use volume::{walked_entries_hang, walked_targets_hang, walks_are_listed};

@@ -1,8 +1,8 @@
-ghost use Rattle.walked_rules.specs.Laws.{WalkedNamesDiffer, WalkedPartsKeepRule4, WalkedPartsKeepRule7, WalkedRowsStand};
+ghost use Rattle.walked_rules.specs.Laws.{WalkedNamesDiffer, WalkedPartsKeepRule4, WalkedPartsKeepRule7, WalkedRowsStand, WalkedSidesAreKept};
 
 use hal_schema::schemas_are_kept;
 use partition_select::root_order_is_total;
-use record_walk::{siblings_rise, sides_list_their_cells};
+use record_walk::{parents_stand_first, siblings_rise, sides_list_their_cells};
 
 /// The rows of a walked partition are exactly the segments that stand, each at its home.
 pub fn walked_rows_stand()
@@ -34,4 +34,16 @@ pub fn walked_parts_keep_rule_7()
     schemas_are_kept();
     walked_rows_stand();
     siblings_rise();
+}
+
+/// Each side of a walked partition is in hierarchic sequence, so that of such partitions the sides are a forest.
+pub fn walked_sides_are_kept()
+    ensures { WalkedSidesAreKept }
+{
+    schemas_are_kept();
+    walked_rows_stand();
+    walked_parts_keep_rule_7();
+    walked_names_differ();
+    siblings_rise();
+    parents_stand_first();
 }
