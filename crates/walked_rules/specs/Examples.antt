@@ -13,7 +13,7 @@ use Rattle.volume_rules.specs.View.{Home}
 use Rattle.volume_rules.specs.Volume.{RowsStand, forest_of}
 use Rattle.volume_rules.specs.Sides.{KeepsRule4, KeepsRule7}
 use Rattle.walked_rules.specs.Parts.{WalkedPart, view_of, root_sets_of, volume_of}
-use Rattle.walked_rules.specs.Laws.{leads_to_record}
+use Rattle.walked_rules.specs.Laws.{leads_to_record, KeepsTheRest}
 
 abbrev pub only_part : PartDef
 only_part = record { name = codes "P1"; number = 1; high = codes "999"; anchors = 2; fbff = 0; fspf = 0 }
@@ -61,6 +61,9 @@ pub record WalkedExamples : Type 0 where
   pub phidam_keeps : KeepsWalkedRules phidam idle_phidam
   pub phdam_keeps : KeepsWalkedRules phdam idle_phdam
   pub moving_keeps : KeepsWalkedRules phidam moving
+  -- with the rules 6 and 10 and what else the sides need
+  pub phidam_rest : KeepsTheRest phidam idle_phidam
+  pub phdam_rest : KeepsTheRest phdam idle_phdam
   -- the rows of each generation; a generation that isn't live has none
   pub output_rows : map (λ r. r.addr) ((view_of moving).rows 2) ≡ 16 ∷ 32 ∷ 64 ∷ 48 ∷ 80 ∷ 112 ∷ []
   pub input_rows : map (λ r. r.addr) ((view_of moving).rows 1) ≡ 96 ∷ []

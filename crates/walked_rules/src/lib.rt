@@ -17,3 +17,6 @@ pub use rows::{
     walked_sides_are_kept,
 };
 pub use volume::{walked_entries_hang, walked_targets_hang, walks_are_listed};
+
+#[cfg(test)]
+mod tests;
