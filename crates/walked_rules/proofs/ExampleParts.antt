@@ -1,5 +1,5 @@
 -- The example's partitions keep the rules 4, 5 and 7.
-use Rattle.std.proofs.Common.{◌≡◌, ℕ, ◌==◌, Bool, true, false, ◌||◌, List, map, Option, None, Some, refl, sym, ap, subst, ◌∙◌, arith}
+use Rattle.std.proofs.Common.{◌≡◌, ℕ, zero, suc, ◌==◌, Bool, true, false, ◌||◌, List, [], ◌∷◌, map, Option, None, Some, refl, sym, ap, subst, ◌∙◌, arith}
 use Rattle.std.specs.List.{list_all, slice_get}
 use Rattle.std.specs.Option.{option_map}
 use Rattle.std.proofs.lemmas.Bool.{eqb-true, false≢true}
@@ -21,7 +21,7 @@ use Rattle.volume_rules.specs.Rules.{KeepsRule6}
 use Rattle.volume_rules.specs.Volume.{RowsStand, stands_in}
 use Rattle.volume_rules.proofs.SidesKept.{at_row}
 use Rattle.walked_rules.specs.Parts.{WalkedPart, IsWalkedPart, homed, view_of}
-use Rattle.walked_rules.specs.Laws.{WalkedRowsStand, WalkedPartsKeepRule4, WalkedPartsKeepRule7, NamesDiffer, TwinsFollow}
+use Rattle.walked_rules.specs.Laws.{WalkedRowsStand, WalkedPartsKeepRule4, WalkedPartsKeepRule7, NamesDiffer, TwinsFollow, KeepsTheRest, IsPartAt, WalkedVolumesAreForests}
 use Rattle.walked_rules.proofs.OnViews.{passing, rows_at, cell_of}
 use Rattle.walked_rules.specs.Examples.{idle, idle_phidam, idle_phdam, moving, KeepsWalkedRules, WalkedExamples}
 
@@ -79,9 +79,25 @@ module _ (cells : ℕ → Option Cell) (rows : List RootRow) (trees : Chains) (s
         (λ i. option_map (λ (t : Segment). t.name) ((view_of (idle cells rows trees)).segments (record { number = number i; addr = addr i }))) ∙ ap (option_map (λ (t : Segment). t.name)) stands.here;
   }
 
-module _ (rule4 : WalkedPartsKeepRule4) (rule5 : WalkedRowsStand) (rule7 : WalkedPartsKeepRule7) where
+module _ (rule4 : WalkedPartsKeepRule4) (rule5 : WalkedRowsStand) (rule7 : WalkedPartsKeepRule7) (volumes : WalkedVolumesAreForests) where
   keeps : (schema : Schema) (p : WalkedPart) → IsWalkedPart schema p → slice_get schema.parts p.place ≡ Some p.part → NamesDiffer p → TwinsFollow schema p → KeepsWalkedRules schema p
   keeps schema p walked defined names follow = record { rule4 = rule4 schema p walked defined; rule5 = rule5 schema p walked; rule7 = rule7 schema p walked names follow }
+
+  phidam_rest : AreSides → KeepsTheRest phidam idle_phidam
+  phidam_rest sides = record {
+    defined = refl;
+    numbered = refl;
+    cursor = refl;
+    rule6 = rule6 (cells_in (example_cells 144)) two_rows two_trees (rule5 phidam idle_phidam (λ number live. sides.phidam_side)) refl;
+    rule10 = record { output = λ home s moves. absurd (false≢true moves); input = λ home s moves. absurd (false≢true moves) };
+    twins = λ number live. refl;
+    lengths = λ number live. refl;
+  }
+
+  -- the only partition of its volume
+  alone : AreSides → (place : ℕ) (p : WalkedPart) → slice_get (idle_phidam ∷ []) place ≡ Some p → IsPartAt phidam place p
+  alone sides zero p here = subst (IsPartAt phidam 0) (same_some idle_phidam p here) (record { stands = refl; walked = λ number live. sides.phidam_side; rest = phidam_rest sides })
+  alone sides (suc place) p here = cc
 
   pub walked_examples : AreSides → SidesMakeForests → WalkedExamples
   walked_examples sides forests = record {
@@ -89,15 +105,7 @@ module _ (rule4 : WalkedPartsKeepRule4) (rule5 : WalkedRowsStand) (rule7 : Walke
     phdam_keeps = keeps phdam idle_phdam (λ number live. sides.phdam_side) refl (λ number live. refl) (λ number live. refl);
     moving_keeps = keeps phidam moving (moving_walked forests) refl (live_numbers (λ number. all_pairs names_apart (rows_of (list_in None (moving.trees number))) ≡ true) refl refl)
         (live_numbers (λ number. twins_follow_in phidam (moving.trees number) ≡ true) refl refl);
-    phidam_rest = record {
-      defined = refl;
-      numbered = refl;
-      cursor = refl;
-      rule6 = rule6 (cells_in (example_cells 144)) two_rows two_trees (rule5 phidam idle_phidam (λ number live. sides.phidam_side)) refl;
-      rule10 = record { output = λ home s moves. absurd (false≢true moves); input = λ home s moves. absurd (false≢true moves) };
-      twins = λ number live. refl;
-      lengths = λ number live. refl;
-    };
+    phidam_rest = phidam_rest sides;
     phdam_rest = record {
       defined = refl;
       numbered = refl;
@@ -107,6 +115,7 @@ module _ (rule4 : WalkedPartsKeepRule4) (rule5 : WalkedRowsStand) (rule7 : Walke
       twins = λ number live. refl;
       lengths = λ number live. refl;
     };
+    phidam_volume = volumes phidam (idle_phidam ∷ []) [] (λ place p here. alone sides place p here);
     output_rows = refl;
     input_rows = refl;
     no_rows = refl;

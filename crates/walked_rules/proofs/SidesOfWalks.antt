@@ -1,6 +1,6 @@
 -- The sides of a walked partition are in hierarchic sequence.
-use Rattle.std.proofs.Common.{◌≡◌, ℕ, ◌+◌, ◌==◌, Bool, true, false, not, cond, ◌&&◌, ◌||◌, List, [], ◌∷◌, map, Option, None, Some, is_some, refl, sym, ap, ◌∙◌}
-use Rattle.std.specs.List.{list_all}
+use Rattle.std.proofs.Common.{◌≡◌, ℕ, zero, suc, ◌+◌, ◌==◌, Bool, true, false, not, cond, ◌&&◌, ◌||◌, List, [], ◌∷◌, map, Option, None, Some, is_some, refl, sym, ap, subst, ◌∙◌}
+use Rattle.std.specs.List.{list_all, slice_get}
 use Rattle.std.specs.Option.{option_map_or}
 use Rattle.std.proofs.lemmas.Bool.{and_from, eqb-true, false≢true}
 use Rattle.hal_schema.specs.Facts.{SchemasAreKept}
@@ -14,9 +14,11 @@ use Rattle.record_walk.specs.Side.{heads_in, key_of, belongs, roots_rise, seen}
 use Rattle.record_walk.specs.Siblings.{twins_follow_in, SiblingsRise}
 use Rattle.record_walk.specs.Parents.{ParentsStandFirst}
 use Rattle.record_walk.proofs.Joined.{rows_pass}
-use Rattle.volume_rules.specs.View.{is_live, is_moving}
-use Rattle.walked_rules.specs.Parts.{side_at}
-use Rattle.walked_rules.specs.Laws.{WalkedRowsStand, WalkedPartsKeepRule7, WalkedNamesDiffer, WalkedSidesAreKept}
+use Rattle.forest_laws.proofs.Names.{same_some}
+use Rattle.volume_rules.specs.View.{View, is_live, is_moving}
+use Rattle.volume_rules.specs.SideForest.{KeepsSides, SidesAreAForest}
+use Rattle.walked_rules.specs.Parts.{WalkedPart, view_of, side_at, volume_of}
+use Rattle.walked_rules.specs.Laws.{WalkedRowsStand, WalkedPartsKeepRule7, WalkedNamesDiffer, WalkedSidesAreKept, WalkedVolumesAreForests}
 use Rattle.walked_rules.proofs.RootsOfWalks.{root_rows}
 use Rattle.walked_rules.proofs.ListsOfWalks.{own_lives, output_lives, part_sides}
 
@@ -69,3 +71,22 @@ walked_sides_are_kept kept rows rule7 names siblings parents schema p walked res
         and_from (is_in_sequence schema (rows_of (list_in None (p.trees (p.state.number + 1))))) (is_in_sequence schema (rows_of (list_in None (p.trees p.state.number))) && true) (sequence (p.state.number + 1) (output_lives p e))
         (and_from (is_in_sequence schema (rows_of (list_in None (p.trees p.state.number)))) true (sequence p.state.number (own_lives p)) refl)
     both false e = and_from (is_in_sequence schema (rows_of (list_in None (p.trees p.state.number)))) true (sequence p.state.number (own_lives p)) refl
+
+-- ---- a volume of walked partitions
+
+record PartOf (parts : List WalkedPart) (place : ℕ) (view : View) : Type 0 where
+  pub part : WalkedPart
+  pub here : slice_get parts place ≡ Some part
+  pub is : view_of part ≡ view
+
+part_of : (parts : List WalkedPart) (place : ℕ) (view : View) → slice_get (map view_of parts) place ≡ Some view → PartOf parts place view
+part_of [] place view e = cc
+part_of (p ∷ parts) zero view e = record { part = p; here = refl; is = same_some (view_of p) view e }
+part_of (p ∷ parts) (suc place) view e = let x = part_of parts place view e in record { part = x.part; here = x.here; is = x.is }
+
+pub walked_volumes_are_forests : WalkedSidesAreKept → SidesAreAForest → WalkedVolumesAreForests
+walked_volumes_are_forests sides forest schema parts indexes each =
+    forest schema (volume_of parts indexes) (λ place view here.
+    let x = part_of parts place view here in
+    let at = each place x.part x.here in
+    subst (KeepsSides schema place) x.is (subst (λ (n : ℕ). KeepsSides schema n (view_of x.part)) at.stands (sides schema x.part at.walked at.rest)))

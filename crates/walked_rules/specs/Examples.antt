@@ -12,6 +12,7 @@ use Rattle.record_walk.specs.ChangeExamples.{output, input, by_g, entry_under}
 use Rattle.volume_rules.specs.View.{Home}
 use Rattle.volume_rules.specs.Volume.{RowsStand, forest_of}
 use Rattle.volume_rules.specs.Sides.{KeepsRule4, KeepsRule7}
+use Rattle.volume_rules.specs.SideForest.{SidesStand}
 use Rattle.walked_rules.specs.Parts.{WalkedPart, view_of, root_sets_of, volume_of}
 use Rattle.walked_rules.specs.Laws.{leads_to_record, KeepsTheRest}
 
@@ -64,6 +65,8 @@ pub record WalkedExamples : Type 0 where
   -- with the rules 6 and 10 and what else the sides need
   pub phidam_rest : KeepsTheRest phidam idle_phidam
   pub phdam_rest : KeepsTheRest phdam idle_phdam
+  -- the volume of the one is a forest
+  pub phidam_volume : SidesStand phidam (volume_of (idle_phidam ∷ []) [])
   -- the rows of each generation; a generation that isn't live has none
   pub output_rows : map (λ r. r.addr) ((view_of moving).rows 2) ≡ 16 ∷ 32 ∷ 64 ∷ 48 ∷ 80 ∷ 112 ∷ []
   pub input_rows : map (λ r. r.addr) ((view_of moving).rows 1) ≡ 96 ∷ []

@@ -18,7 +18,7 @@ use Rattle.volume_rules.specs.Target.{bears}
 use Rattle.volume_rules.specs.Rules.{KeepsRule6, KeepsRule10}
 use Rattle.volume_rules.specs.Volume.{IndexRow, RowsStand, forest_of}
 use Rattle.volume_rules.specs.Sides.{KeepsRule4, KeepsRule7}
-use Rattle.volume_rules.specs.SideForest.{sides_of, has_its_cursor, KeepsSides}
+use Rattle.volume_rules.specs.SideForest.{sides_of, has_its_cursor, KeepsSides, SidesStand}
 use Rattle.walked_rules.specs.Parts.{WalkedPart, IsWalkedPart, view_of, root_sets_of, all_sides, volume_of}
 
 -- rule 5: the rows are exactly the segments that stand, each at its home
@@ -93,3 +93,14 @@ pub record KeepsTheRest (schema : Schema) (p : WalkedPart) : Type 0 where
 -- then each side is in hierarchic sequence, and of such partitions the sides are a forest (`sides_are_a_forest`)
 abbrev pub WalkedSidesAreKept : Type 0
 WalkedSidesAreKept = (schema : Schema) (p : WalkedPart) → IsWalkedPart schema p → KeepsTheRest schema p → KeepsSides schema p.place (view_of p)
+
+-- the partition at a place of a volume
+pub record IsPartAt (schema : Schema) (place : ℕ) (p : WalkedPart) : Type 0 where
+  pub stands : p.place ≡ place
+  pub walked : IsWalkedPart schema p
+  pub rest : KeepsTheRest schema p
+
+-- The sides of walked partitions in their places stand in order, and their list is a forest where no index has a key twice.
+abbrev pub WalkedVolumesAreForests : Type 0
+WalkedVolumesAreForests = (schema : Schema) (parts : List WalkedPart) (indexes : List (List IndexRow))
+    → ((place : ℕ) (p : WalkedPart) → slice_get parts place ≡ Some p → IsPartAt schema place p) → SidesStand schema (volume_of parts indexes)

@@ -16,7 +16,9 @@ pub use rows::{
     walked_names_differ, walked_parts_keep_rule_4, walked_parts_keep_rule_7, walked_rows_stand,
     walked_sides_are_kept,
 };
-pub use volume::{walked_entries_hang, walked_targets_hang, walks_are_listed};
+pub use volume::{
+    walked_entries_hang, walked_targets_hang, walked_volumes_are_forests, walks_are_listed,
+};
 
 #[cfg(test)]
 mod tests;

@@ -11,5 +11,6 @@ fn the_laws_can_be_called(_rt: HostRuntime) {
     walks_are_listed();
     walked_entries_hang();
     walked_targets_hang();
+    walked_volumes_are_forests();
     walked_examples();
 }
