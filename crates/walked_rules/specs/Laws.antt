@@ -73,7 +73,8 @@ abbrev pub WalkedTargetsHang : Type 0
 WalkedTargetsHang = (schema : Schema) (front behind : List WalkedPart) (p : WalkedPart) (indexes : List (List IndexRow)) (index : IndexDef) (home : Home)
     → AllByRecursion (IsWalkedPart schema) (front ++ p ∷ behind)
     → all_pairs names_apart (forest_of (volume_of (front ++ p ∷ behind) indexes)) ≡ true
-    → list_all (leads_to_record schema.types (view_of p) home index.target) (entries_of schema.types index (forest_of (volume_of (front ++ p ∷ behind) indexes))) ≡ true
+    → list_all (leads_to_record schema.types (view_of p) home index.target)
+    (entries_of schema.types index (forest_of (volume_of (front ++ p ∷ behind) indexes))) ≡ true
 
 -- each content of a live side has the length of its type
 abbrev pub LengthsAreKept : Schema → WalkedPart → Type 0

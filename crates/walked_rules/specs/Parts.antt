@@ -49,7 +49,8 @@ view_of p = record {
 
 -- the root sets of the live sides: under a key the home of its row
 abbrev pub root_sets_of : WalkedPart → RootSet
-root_sets_of p number key = if is_live p.state number then option_map (λ (r : RootRow). r.home) (find (λ (r : RootRow). bytes_eq r.key key) (p.roots number)) else None
+root_sets_of p number key =
+    if is_live p.state number then option_map (λ (r : RootRow). r.home) (find (λ (r : RootRow). bytes_eq r.key key) (p.roots number)) else None
 
 abbrev pub side_at : WalkedPart → ℕ → PlacedSide
 side_at p number = record { place = p.place; cells = p.cells number; rows = p.roots number; trees = p.trees number }
