@@ -1,0 +1,7 @@
+use Rattle.std.proofs.Common.{◌≡◌, ◌+◌, drop}
+use Rattle.std.specs.List.{position_or_len}
+use Rattle.std.specs.Str.{bytes_eq}
+use Rattle.call_gets.proofs.names.place_named.Given as goal
+
+abbrev pub invariant-loop-place : goal.invariant-loop-place
+invariant-loop-place l = position_or_len (λ t. bytes_eq t.name l.name) l.types ≡ l.place + position_or_len (λ t. bytes_eq t.name l.name) (drop l.place l.types)
