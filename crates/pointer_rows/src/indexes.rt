@@ -1,9 +1,9 @@
-// Secondary indexes with entries of the longest keys, two of them on one shelf.
+// Secondary indexes with entries of the longest keys, two of them on one shelf beside an indirect list.
 ghost use Rattle.std.specs.Prelude.{◌≡◌, length, IfOk};
 
-use crate::OpenIndex;
+use crate::{OpenIndex, OpenList};
 use dbd_reader::read_dbd;
-use eps_pointers::Eps;
+use eps_pointers::{Eps, Ile};
 use hal_base::{Bytes, Ilk};
 use hal_schema::{RawSchema, Schema};
 use memory_shelf::QuietShelf;
@@ -92,7 +92,7 @@ fn long_keys_stand_in_order_each_once(rt: HostRuntime) -> Result<(), Fail> {
 }
 
 #[test]
-fn two_indexes_stand_on_one_shelf(rt: HostRuntime) -> Result<(), Fail> {
+fn two_indexes_stand_on_one_shelf_beside_a_list(rt: HostRuntime) -> Result<(), Fail> {
     let schema = schema_of(&rt)?;
     let entry = entry_of(&rt, 240, 5)?;
     let Ok(mut first) = OpenIndex::new(rt.alloc(), QuietShelf::new(rt.alloc(), 8), &schema, 0)
@@ -105,7 +105,17 @@ fn two_indexes_stand_on_one_shelf(rt: HostRuntime) -> Result<(), Fail> {
     };
     assert_eq!(rt; second.entries_after(None).map(number_of), Ok(None));
     assert_eq!(rt; second.add(&entry_of(&rt, 237, 6)?), Ok(true));
-    let Ok(mut first) = OpenIndex::new(rt.alloc(), second.into_shelf(), &schema, 0) else {
+    let Ok(mut list) = OpenList::new(rt.alloc(), second.into_shelf()) else {
+        return Err("opened the list".into());
+    };
+    let home = Ile {
+        addr: 48,
+        number: 3,
+    };
+    assert_eq!(rt; list.find(entry.eps.ilk, 2), Ok(None));
+    assert_eq!(rt; list.set(entry.eps.ilk, 2, home), Ok(()));
+    assert_eq!(rt; list.find(entry.eps.ilk, 2), Ok(Some(home)));
+    let Ok(mut first) = OpenIndex::new(rt.alloc(), list.into_shelf(), &schema, 0) else {
         return Err("opened again".into());
     };
     assert_eq!(rt; first.entries_after(None).map(number_of), Ok(Some(5)));

@@ -44,6 +44,12 @@ impl<H: Shelf + Drop> OpenList<H> {
         self.list.drop_entry(&mut self.shelf, ilk, code)
     }
 
+    /// The shelf, on which another may be opened.
+    pub fn into_shelf(self) -> H {
+        let OpenList { shelf, list: _ } = self;
+        shelf
+    }
+
     /// The pages of the list.
     pub fn pages(&self) -> u32 {
         self.shelf.pages(hal_base::SetId {
