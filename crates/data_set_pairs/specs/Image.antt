@@ -46,7 +46,8 @@ HasUnknown indexes states blocks = are_known indexes states blocks ≡ false
 
 -- the live blocks of each data set have the page numbers from 0 to their count less 1, each once
 abbrev pub AreNumbered : ℕ → List PartState → List (List ℕ) → Type 0
-AreNumbered indexes states blocks = (set : SetId) (n : ℕ) → n < length (set_blocks indexes states set blocks) → IsTrue (list_any (λ page. page == n) (map page_in (set_blocks indexes states set blocks)))
+AreNumbered indexes states blocks =
+    (set : SetId) (n : ℕ) → n < length (set_blocks indexes states set blocks) → IsTrue (list_any (λ page. page == n) (map page_in (set_blocks indexes states set blocks)))
 
 -- and so where the blocks are told
 abbrev pub DataNumbered : ℕ → ℕ → List PartState → Option (List (List ℕ)) → Type 0

@@ -30,4 +30,5 @@ held control indexes states table = record { control = control; indexes = indexe
 
 -- and what it held at the last commit
 abbrev pub last_held : ℕ → ℕ → Option (Vec PartState Global) → Vec PartState Global → Option Table → Table → Held
-last_held control indexes kept states kept_table table = record { control = control; indexes = indexes; states = last_states kept states; pages = last_pages kept_table table; free = last_free kept_table table }
+last_held control indexes kept states kept_table table =
+    record { control = control; indexes = indexes; states = last_states kept states; pages = last_pages kept_table table; free = last_free kept_table table }

@@ -10,7 +10,8 @@ pub record HasFirstStates (schema : Schema) (blocks : List (List ℕ)) (n : ℕ)
   pub many : length states ≡ min n (length schema.parts)
   pub fit : (place : ℕ) (s : PartState) → slice_get states place ≡ Some s → IsTrue (state_fits schema place s)
   pub is : (place : ℕ) (s : PartState) → slice_get states place ≡ Some s → row_in blocks place ≡ control_row s
-  pub one : (place : ℕ) (s : PartState) → slice_get states place ≡ Some s → (other : PartState) → IsTrue (state_fits schema place other) → row_in blocks place ≡ control_row other → other ≡ s
+  pub one : (place : ℕ) (s : PartState) → slice_get states place ≡ Some s → (other : PartState)
+      → IsTrue (state_fits schema place other) → row_in blocks place ≡ control_row other → other ≡ s
   pub rest : (place : ℕ) → length schema.parts ≤ place → place < n → row_in blocks place ≡ replicate 128 0
 
 -- no states stand in the control blocks

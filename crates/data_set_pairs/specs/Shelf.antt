@@ -1,5 +1,6 @@
 -- A volume as a shelf of pages.
 use Rattle.std.specs.Prelude.{◌≡◌, ℕ, Bool, ◌&&◌, ◌==◌, nat_lt, not, if◌then◌else◌, List, [], map, take, reverse, slice_index_or, Option, IsTrue}
+use Rattle.std.proofs.Common.{Vec, Global}
 use Rattle.std.specs.List.{list_any}
 use Rattle.std.specs.Option.{option_map}
 use Rattle.hal_base.specs.declared.pages.SetId.{SetId}
@@ -10,6 +11,8 @@ use Rattle.hal_base.specs.StoreCalls.{StoreView}
 use Rattle.data_set_pairs.specs.declared.place.PagePlace.{PagePlace}
 use Rattle.data_set_pairs.specs.declared.table.Table.{Table}
 use Rattle.data_set_pairs.specs.Table.{places_of}
+use Rattle.data_set_pairs.specs.Kept.{last_states, last_pages, last_free}
+use Rattle.data_set_pairs.specs.Stays.{Stays}
 
 -- the blocks at these places
 abbrev pub blocks_at : List ℕ → List (List ℕ) → List (List ℕ)
@@ -63,3 +66,13 @@ standing indexes control states last_states last_pages last_free = record {
   last_pages = last_pages;
   last_free = last_free;
 }
+
+abbrev pub standing_of : ℕ → ℕ → Vec PartState Global → Option (Vec PartState Global) → Table → Option Table → Standing
+standing_of indexes control states kept_states table kept_table =
+    standing indexes control states.items (last_states kept_states states) (last_pages kept_table table) (last_free kept_table table)
+
+-- what a call on pages changes nothing of
+abbrev pub IsSteady : Type 0 → StoreView → StoreView → Standing → Standing → Table → Table → Type 0
+IsSteady steady old new before now table after =
+    Stays steady old new × (now ≡ before) × SameControl before.control old.list new.list
+    × FreeStays (reverse table.free.items) (reverse after.free.items) old.list new.list

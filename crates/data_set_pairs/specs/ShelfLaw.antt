@@ -25,19 +25,26 @@ rise_weaker from low (n ∷ ns) le rise =
 pub free_rise : (control number : ℕ) (pages : List PagePlace) (free : List ℕ) → IsTable control number pages free → rises_from 0 free ≡ true
 free_rise control number pages free table = rise_weaker control 0 free (omega arith) table.rise
 
-pub few_pages : (control number : ℕ) (pages : List PagePlace) (free : List ℕ) (set : SetId) → IsTable control number pages free → number ≤ control + 65536 → length (places_of set pages) + length free ≤ 65536
+pub few_pages : (control number : ℕ) (pages : List PagePlace) (free : List ℕ) (set : SetId) → IsTable control number pages free
+    → number ≤ control + 65536 → length (places_of set pages) + length free ≤ 65536
 few_pages control number pages free set table near =
     omega (arith, length-map (pages_of set pages) (λ (p : PagePlace). p.block), length-filter (is_page_of set) pages, count_by-le-length (is_page_of set) pages, table.every, near)
 
 pub places_within : (control number : ℕ) (pages : List PagePlace) (free : List ℕ) (set : SetId) → IsTable control number pages free → All (IsBetween control number) (places_of set pages)
-places_within control number pages free set table = All-map (IsBetween control number) (λ (p : PagePlace). p.block) (pages_of set pages) (All-filter (is_page_of set) (λ (p : PagePlace). IsBetween control number p.block) pages table.within)
+places_within control number pages free set table =
+    All-map (IsBetween control number) (λ (p : PagePlace). p.block) (pages_of set pages) (All-filter (is_page_of set) (λ (p : PagePlace). IsBetween control number p.block) pages table.within)
 
-pub pages_fit : (indexes control number : ℕ) (states : List PartState) (pages : List PagePlace) (free : List ℕ) (set : SetId) (told : Option (List (List ℕ))) → IsTable control number pages free → ((list : List (List ℕ)) → told ≡ Some list → IsLaidOut indexes control number states pages free list) → IfSome (option_map (blocks_at (places_of set pages)) told) (λ blocks. (length blocks ≡ length (places_of set pages)) × All (λ page. length page ≡ 4096) blocks)
+pub pages_fit : (indexes control number : ℕ) (states : List PartState) (pages : List PagePlace) (free : List ℕ) (set : SetId) (told : Option (List (List ℕ)))
+    → IsTable control number pages free → ((list : List (List ℕ)) → told ≡ Some list → IsLaidOut indexes control number states pages free list)
+    → IfSome (option_map (blocks_at (places_of set pages)) told) (λ blocks. (length blocks ≡ length (places_of set pages)) × All (λ page. length page ≡ 4096) blocks)
 pages_fit indexes control number states pages free set None table laid = tt
 pages_fit indexes control number states pages free set (Some list) table laid =
     let at = laid list refl in
-    let within = places_within control number pages free set table in
-    (length-map (places_of set pages) (λ (n : ℕ). get_or list n []), All-map (λ (page : List ℕ). length page ≡ 4096) (λ (n : ℕ). get_or list n []) (places_of set pages) (λ k d lt. at.whole (get_or (places_of set pages) k d) [] (omega (arith, (within k d lt).to, at.many))))
+    let within = places_within control number pages free set table in (
+      length-map (places_of set pages) (λ (n : ℕ). get_or list n []),
+      All-map (λ (page : List ℕ). length page ≡ 4096) (λ (n : ℕ). get_or list n []) (places_of set pages)
+          (λ k d lt. at.whole (get_or (places_of set pages) k d) [] (omega (arith, (within k d lt).to, at.many))),
+    )
 
 -- what is read off blocks is told where they are
 pub untold_alike : {X Y Z : Type 0} (f : X → Y) (g : X → Z) (told : Option X) → option_map f told ≡ None → option_map g told ≡ None

@@ -1,8 +1,9 @@
 -- What a volume holds in memory, and what it says of the blocks.
-use Rattle.std.specs.Prelude.{◌≡◌, ℕ, ◌*◌, ◌<◌, ◌≤◌, List, length, replicate, All, Some}
+use Rattle.std.specs.Prelude.{◌≡◌, ℕ, ◌*◌, ◌<◌, ◌≤◌, List, length, replicate, All, Some, IsTrue}
 use Rattle.std.specs.List.{slice_get}
 use Rattle.hal_schema.specs.declared.schema.Schema.{Schema}
 use Rattle.hal_base.specs.declared.place.PartState.{PartState}
+use Rattle.hal_base.specs.StoreCalls.{StoreView}
 use Rattle.volume_image.specs.Control.{control_row, row_in}
 use Rattle.volume_image.specs.Pages.{KeepsRule1, KeepsRule2}
 use Rattle.data_set_pairs.specs.declared.place.PagePlace.{PagePlace}
@@ -15,6 +16,11 @@ pub record IsLaidOut (indexes control number : ℕ) (states : List PartState) (p
   pub rows : (place : ℕ) (s : PartState) → slice_get states place ≡ Some s → row_in list place ≡ control_row s
   pub rest : (place : ℕ) → length states ≤ place → place < 32 * control → row_in list place ≡ replicate 128 0
   pub table : TableStands indexes states control pages free list
+
+-- and so, as long as the blocks are live, what was held at the last commit and the blocks of then
+abbrev pub IsLaidOutThen : StoreView → ℕ → ℕ → List PartState → List PagePlace → List ℕ → Type 0
+IsLaidOutThen blocks indexes control states pages free =
+    IsTrue blocks.live → (list : List (List ℕ)) → blocks.committed ≡ Some list → IsLaidOut indexes control blocks.number states pages free list
 
 -- no states have the blocks keep rule 1 in its part on control rows and heads
 abbrev pub BreaksOne : Schema → List (List ℕ) → Type 0

@@ -2,10 +2,8 @@
 ghost use Rattle.std.specs.Prelude.{◌≡◌, reverse};
 ghost use Rattle.std.specs.Option.{option_map};
 ghost use Rattle.std.proofs.Common.{◌∙◌, ap, refl};
-ghost use Rattle.data_set_pairs.specs.Stays.{Stays};
 ghost use Rattle.data_set_pairs.specs.Table.{places_of};
-ghost use Rattle.data_set_pairs.specs.Kept.{last_states, last_pages, last_free};
-ghost use Rattle.data_set_pairs.specs.Shelf.{blocks_at, kind_fits, takes, standing, Standing, SameControl, FreeStays, view};
+ghost use Rattle.data_set_pairs.specs.Shelf.{blocks_at, kind_fits, takes, Standing, standing_of, IsSteady, view};
 ghost use Rattle.data_set_pairs.specs.ShelfLaw.{control_then, few_pages, free_stays, free_then, free_rise, pages_fit, untold_alike};
 ghost use Rattle.data_set_pairs.specs.StaysLaw.{stays_none, stays_then};
 
@@ -47,21 +45,37 @@ impl<B: Blocks> Live for Volume<B> {
 impl<B: Blocks> Shelf for Volume<B> {
     ghost seen = { λ v. view v.indexes v.states.items v.table (B.seen v.blocks) };
 
-    ghost steady = { λ a b. Stays (B.steady a.blocks b.blocks) (B.seen a.blocks) (B.seen b.blocks) × (standing b.indexes b.control b.states.items (last_states b.kept_states b.states) (last_pages b.kept_table b.table) (last_free b.kept_table b.table) ≡ standing a.indexes a.control a.states.items (last_states a.kept_states a.states) (last_pages a.kept_table a.table) (last_free a.kept_table a.table)) × SameControl a.control (B.seen a.blocks).list (B.seen b.blocks).list × FreeStays (reverse a.table.free.items) (reverse b.table.free.items) (B.seen a.blocks).list (B.seen b.blocks).list };
+    ghost steady = { λ a b. IsSteady (B.steady a.blocks b.blocks) (B.seen a.blocks) (B.seen b.blocks)
+        (standing_of a.indexes a.control a.states a.kept_states a.table a.kept_table)
+        (standing_of b.indexes b.control b.states b.kept_states b.table b.kept_table) a.table b.table };
 
     ghost alive = { λ v. refl };
 
-    ghost pages_are = { λ v set. pages_fit v.indexes v.control (B.seen v.blocks).number v.states.items v.table.pages.items (reverse v.table.free.items) set (B.seen v.blocks).list v.in_table v.laid };
+    ghost pages_are = { λ v set. pages_fit v.indexes v.control (B.seen v.blocks).number v.states.items v.table.pages.items
+        (reverse v.table.free.items) set (B.seen v.blocks).list v.in_table v.laid };
 
-    ghost told_alike = { λ v set other none. untold_alike (blocks_at (places_of set v.table.pages.items)) (blocks_at (places_of other v.table.pages.items)) (B.seen v.blocks).list none };
+    ghost told_alike = { λ v set other none. untold_alike (blocks_at (places_of set v.table.pages.items))
+        (blocks_at (places_of other v.table.pages.items)) (B.seen v.blocks).list none };
 
     ghost few = { λ v set. few_pages v.control (B.seen v.blocks).number v.table.pages.items (reverse v.table.free.items) set v.in_table v.near };
 
     ghost free_rises = { λ v. free_rise v.control (B.seen v.blocks).number v.table.pages.items (reverse v.table.free.items) v.in_table };
 
-    ghost steady_none = { λ v. (stays_none (B.seen v.blocks) (B.steady_none v.blocks), refl, refl, free_stays (reverse v.table.free.items) (reverse v.table.free.items) (B.seen v.blocks).list (B.seen v.blocks).list refl refl) };
+    ghost steady_none = { λ v. (
+      stays_none (B.seen v.blocks) (B.steady_none v.blocks),
+      refl,
+      refl,
+      free_stays (reverse v.table.free.items) (reverse v.table.free.items) (B.seen v.blocks).list (B.seen v.blocks).list refl refl,
+    ) };
 
-    ghost steady_then = { λ a b c first second. (stays_then first.0 second.0 (B.steady_then a.blocks b.blocks c.blocks), second.1 ∙ first.1, control_then a.control b.control (B.seen a.blocks).list (B.seen b.blocks).list (B.seen c.blocks).list (ap (λ (s : Standing). s.control) first.1) first.2 second.2, free_then (reverse a.table.free.items) (reverse b.table.free.items) (reverse c.table.free.items) (B.seen a.blocks).list (B.seen b.blocks).list (B.seen c.blocks).list first.3 second.3) };
+    ghost steady_then = { λ a b c first second. (
+      stays_then first.0 second.0 (B.steady_then a.blocks b.blocks c.blocks),
+      second.1 ∙ first.1,
+      control_then a.control b.control (B.seen a.blocks).list (B.seen b.blocks).list (B.seen c.blocks).list
+          (ap (λ (s : Standing). s.control) first.1) first.2 second.2,
+      free_then (reverse a.table.free.items) (reverse b.table.free.items) (reverse c.table.free.items)
+          (B.seen a.blocks).list (B.seen b.blocks).list (B.seen c.blocks).list first.3 second.3,
+    ) };
 
     fn pages(&self, set: SetId) -> u32 {
         count_of(&self.table.pages, set)

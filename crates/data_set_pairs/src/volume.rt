@@ -6,7 +6,7 @@ ghost use Rattle.volume_image.specs.Header.{is_free};
 ghost use Rattle.volume_image.specs.Pages.{KeepsRule1, KeepsRule2};
 ghost use Rattle.data_set_pairs.specs.Stays.{Looks};
 ghost use Rattle.data_set_pairs.specs.Table.{IsTable, places_of};
-ghost use Rattle.data_set_pairs.specs.Volume.{BreaksOne, BreaksTwo, IsLaidOut};
+ghost use Rattle.data_set_pairs.specs.Volume.{BreaksOne, BreaksTwo, IsLaidOut, IsLaidOutThen};
 ghost use Rattle.data_set_pairs.specs.Kept.{held, last_held, last_states, last_pages, last_free};
 
 use crate::fault::{VolFault, VolWhy};
@@ -32,10 +32,12 @@ pub struct Volume<B: Blocks> {
     ghost control_is: { control ≡ (length states.items + 31) / 32 },
     ghost near: { (B.seen blocks).number ≤ control + 65536 },
     ghost in_table: { IsTable control (B.seen blocks).number table.pages.items (reverse table.free.items) },
-    ghost laid: { (list : List (List ℕ)) → (B.seen blocks).list ≡ Some list → IsLaidOut indexes control (B.seen blocks).number states.items table.pages.items (reverse table.free.items) list },
+    ghost laid: { (list : List (List ℕ)) → (B.seen blocks).list ≡ Some list →
+        IsLaidOut indexes control (B.seen blocks).number states.items table.pages.items (reverse table.free.items) list },
     ghost as_many: { length (last_states kept_states states) ≡ length states.items },
     ghost kept_in_table: { IsTable control (B.seen blocks).number (last_pages kept_table table) (reverse (last_free kept_table table)) },
-    ghost kept_laid: { IsTrue (B.seen blocks).live → (list : List (List ℕ)) → (B.seen blocks).committed ≡ Some list → IsLaidOut indexes control (B.seen blocks).number (last_states kept_states states) (last_pages kept_table table) (reverse (last_free kept_table table)) list },
+    ghost kept_laid: { IsLaidOutThen (B.seen blocks) indexes control (last_states kept_states states) (last_pages kept_table table)
+        (reverse (last_free kept_table table)) },
 }
 
 impl<B: Blocks> Volume<B> {

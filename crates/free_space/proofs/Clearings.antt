@@ -7,7 +7,7 @@ use Rattle.segment_blocks.specs.declared.tile.Cell.{Cell}
 use Rattle.segment_blocks.specs.declared.tile.Tile.{Tile}
 use Rattle.segment_blocks.specs.declared.tile.Tile.TheVariants.{Hole, Seg}
 use Rattle.segment_blocks.specs.Tiling.{cell_length, shape_of, spelled_hole, spelled_cell, spelling, spelled, AreTilesFrom, AreTiles, IsTiling, StandAround, is_hole}
-use Rattle.free_space.specs.Space.{AreHoles}
+use Rattle.segment_blocks.specs.Space.{AreHoles}
 use Rattle.free_space.specs.Clearing.{ends_in_hole, begins_in_hole, IsFront, IsBack, IsCleared}
 use Rattle.free_space.proofs.Runs.{length-hole, length-cell, length-spelled, behind, in_place, split_place, whole_length}
 

@@ -7,7 +7,7 @@ use Rattle.segment_blocks.specs.declared.tile.Cell.{Cell}
 use Rattle.segment_blocks.specs.declared.tile.Tile.{Tile}
 use Rattle.segment_blocks.specs.declared.tile.Tile.TheVariants.{Hole, Seg}
 use Rattle.segment_blocks.specs.Tiling.{cell_length, shape_of, spelled_hole, spelled, Fits, IsCell, AreTilesFrom, AreTiles, IsTiling, StandAround, Writes}
-use Rattle.free_space.specs.Gaps.{left_over}
+use Rattle.segment_blocks.specs.Space.{left_over}
 use Rattle.free_space.proofs.Runs.{length-hole, behind, in_place, filled_tiles}
 
 -- what is written behind the head leaves the head

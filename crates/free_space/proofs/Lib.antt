@@ -1,4 +1,3 @@
-pub mod Spaces
 pub mod Runs
 pub mod Filling
 pub mod Clearings
@@ -10,3 +9,4 @@ pub mod PageSteps
 pub mod PlaceSteps
 pub mod SideSteps
 pub mod Listings
+pub mod Maxima

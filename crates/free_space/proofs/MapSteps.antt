@@ -8,8 +8,9 @@ use Rattle.segment_blocks.specs.declared.tile.Tile.{Tile}
 use Rattle.segment_blocks.specs.declared.tile.Tile.TheVariants.{Hole, Seg}
 use Rattle.segment_blocks.specs.Tiling.{spelled_hole, spelled_cell, spelling, is_hole, AreTilesFrom}
 use Rattle.segment_blocks.specs.TilesOf.{cell_among}
-use Rattle.free_space.specs.Space.{AreHoles}
-use Rattle.free_space.specs.Gaps.{left_over, tile_offset}
+use Rattle.segment_blocks.specs.Space.{AreHoles}
+use Rattle.segment_blocks.specs.Space.{left_over}
+use Rattle.free_space.specs.Gaps.{tile_offset}
 use Rattle.free_space.proofs.Runs.{length-hole, length-cell}
 use Rattle.std.specs.Prelude.{slice_get}
 use Rattle.std.specs.Option.{option_map}

@@ -8,8 +8,8 @@ use Rattle.hal_base.specs.declared.place.Shape.{Shape}
 use Rattle.segment_blocks.specs.Tiling.{IsTiling}
 use Rattle.segment_blocks.specs.TilesOf.{tiles_of}
 use Rattle.segment_blocks.proofs.TilesOf.{tiling_is}
-use Rattle.free_space.specs.declared.space.Space.{Space}
-use Rattle.free_space.specs.Space.{space_of}
+use Rattle.segment_blocks.specs.declared.space.Space.{Space}
+use Rattle.segment_blocks.specs.Space.{space_of}
 use Rattle.free_space.specs.Map.{layout_of}
 use Rattle.free_space.specs.Store.{Knows}
 use Rattle.free_space.specs.Opening.{IsSpaceOf, BreaksAt, FirstBreaksAt}

@@ -1,5 +1,5 @@
 -- One page that was read, changed and put: what stands at an address, and what the tiles and the store are then.
-use Rattle.std.proofs.Common.{◌≡◌, ℕ, ◌+◌, ◌-◌, ◌/◌, ◌^◌, ◌<◌, ◌≤◌, Result, Ok, Err, List, [], ◌∷◌, ◌++◌, length, take, replicate, All, Option, Some, None, refl, sym, ap, subst, ◌∙◌, arith}
+use Rattle.std.proofs.Common.{◌≡◌, ◌≢◌, ℕ, ◌+◌, ◌-◌, ◌/◌, ◌^◌, ◌<◌, ◌≤◌, Result, Ok, Err, List, [], ◌∷◌, ◌++◌, length, take, replicate, All, Option, Some, None, refl, sym, ap, subst, ◌∙◌, arith}
 use Rattle.std.specs.Prelude.{slice_get, slice_set, IfSome}
 use Rattle.std.specs.Int.{w16, to_be_bytes}
 use Rattle.std.specs.Option.{option_map}
@@ -14,19 +14,18 @@ use Rattle.segment_blocks.specs.declared.tile.Cell.{Cell}
 use Rattle.segment_blocks.specs.declared.tile.Tile.{Tile}
 use Rattle.segment_blocks.specs.declared.tile.Tile.TheVariants.{Hole, Seg}
 use Rattle.segment_blocks.specs.Tiling.{spelled_hole, IsTiling}
-use Rattle.segment_blocks.specs.TilesOf.{cell_among}
-use Rattle.segment_blocks.proofs.Among.{among_is, among_found}
-use Rattle.free_space.specs.declared.space.Space.{Space}
+use Rattle.segment_blocks.specs.TilesOf.{tiles_of, cell_among}
+use Rattle.segment_blocks.specs.declared.space.Space.{Space}
 use Rattle.free_space.specs.declared.store.CellStore.{CellStore}
 use Rattle.free_space.specs.Address.{letter_index, page_at, offset_at, address}
-use Rattle.free_space.specs.Space.{space_of}
-use Rattle.free_space.specs.Gaps.{left_over}
-use Rattle.free_space.specs.Map.{layout_of}
-use Rattle.free_space.specs.Changes.{Replaces, Rewrites, GivesBack}
+use Rattle.segment_blocks.specs.Space.{space_of}
+use Rattle.segment_blocks.specs.Space.{left_over}
+use Rattle.free_space.specs.Map.{layout_of, cell_at}
+use Rattle.free_space.specs.Changes.{Replaces, Rewrites, GivesBack, Rewritten}
 use Rattle.free_space.specs.Clearing.{IsCleared}
 use Rattle.free_space.specs.Placing.{length_of, grown, TakesHole}
 use Rattle.free_space.specs.Store.{Knows, StandsFor, StaysOpen, SameFront, Relays, IsPage, HasPut, HoldsAt, StandsAt}
-use Rattle.free_space.proofs.Spaces.{same_space}
+use Rattle.segment_blocks.proofs.Spaces.{same_space}
 use Rattle.free_space.proofs.Told.{if_some, map_some, page_tiles, space_at, knows_put, knows_push, stands_same, stays_now, heads_push, layout_push, relays_read, relays_put, relays_weaken}
 use Rattle.free_space.proofs.MapSteps.{no_letter, no_page, stands_at, stood_at, alters, drops, adds}
 
@@ -35,7 +34,7 @@ use Rattle.free_space.proofs.MapSteps.{no_letter, no_page, stands_at, stood_at, 
 pub not_in_set : (store : CellStore) (shelf : ShelfView) (at : ℕ) → (at / 2 ^ 28 ≡ letter_index store.set.letter → ⊥) → StandsAt store shelf at None
 not_in_set store shelf at apart = λ pages told. no_letter store.set (layout_of store.shapes pages) at apart
 
-pub past_pages : (store : CellStore) (shelf : ShelfView) (at page : ℕ) → page ≡ page_at at → length store.spaces.items ≤ page → StandsFor store shelf → StandsAt store shelf at None
+pub past_pages : (store : CellStore) (shelf : ShelfView) (at page : ℕ) → page ≡ page_at at → length store.spaces.pages.items ≤ page → StandsFor store shelf → StandsAt store shelf at None
 past_pages store shelf at page is past stands = λ pages told.
     let many = ap length (stands.told pages told).spaces_are ∙ length-map (layout_of store.shapes pages) space_of in
     no_page store.set (layout_of store.shapes pages) at (slice_get_past (layout_of store.shapes pages) (page_at at) (omega (arith, many, past, is)))
@@ -45,27 +44,49 @@ pub found_at : (store : CellStore) (shelf : ShelfView) (at page offset : ℕ) (b
 found_at store shelf at page offset block tiles found letter e0 e1 is t among = λ pages told.
     stands_at store.set (layout_of store.shapes pages) at page offset tiles letter (sym e0) (sym e1) (page_tiles store.shapes pages page block tiles (is pages told) t) ∙ among
 
-none_or : (offset : ℕ) (tiles : List Tile) (found : Option Cell) → cell_among offset tiles ≡ found → ((place : ℕ) (cell : Cell) → slice_get tiles place ≡ Some (Seg offset cell) → ⊥) → cell_among offset tiles ≡ None
-none_or offset tiles None is none = is
-none_or offset tiles (Some cell) is none = let there = among_found offset tiles cell is in absurd (none there.0 cell there.1)
+-- what is known of a page's tiles, where the pages are told
+pub found_on : (store : CellStore) (shelf : ShelfView) (at page offset : ℕ) (block : List ℕ) (found : Option Cell) → at / 2 ^ 28 ≡ letter_index store.set.letter → page ≡ page_at at → offset ≡ offset_at at
+    → StandsFor store shelf → IsPage store.set page block shelf → ((tiles : List Tile) → IsTiling store.shapes block tiles → found ≡ cell_among offset tiles) → StandsAt store shelf at found
+found_on store shelf at page offset block found letter e0 e1 stands is read = λ pages told.
+    let t = (stands.told pages told).tiled page block (is pages told) in
+    found_at store shelf at page offset block (tiles_of store.shapes block) found letter e0 e1 is t (sym (read (tiles_of store.shapes block) t)) pages told
 
-pub none_among : (offset : ℕ) (tiles slice : List Tile) → slice ≡ tiles → ((place : ℕ) (cell : Cell) → slice_get slice place ≡ Some (Seg offset cell) → ⊥) → cell_among offset tiles ≡ None
-none_among offset tiles slice same none = none_or offset tiles (cell_among offset tiles) refl (λ place cell is. none place cell (ap (λ (l : List Tile). slice_get l place) same ∙ is))
+-- a cell that stands at an address is among its page's tiles
+record OnPage (store : CellStore) (at offset : ℕ) (pages : List (List ℕ)) (block : List ℕ) : Type 0 where
+  pub cell : Cell
+  pub stands : cell_at store.set (layout_of store.shapes pages) at ≡ Some cell
+  pub tiled : IsTiling store.shapes block (tiles_of store.shapes block)
+  pub among : cell_among offset (tiles_of store.shapes block) ≡ Some cell
 
-pub one_among : (shapes : List Shape) (block : List ℕ) (tiles slice : List Tile) (place offset : ℕ) (cell copy : Cell) → slice ≡ tiles → IsTiling shapes block tiles → slice_get slice place ≡ Some (Seg offset cell) → copy ≡ cell
-    → cell_among offset tiles ≡ Some copy
-one_among shapes block tiles slice place offset cell copy same t is copied =
-    among_is shapes 16 _ tiles place offset cell t.tiled (ap (λ (l : List Tile). slice_get l place) (sym same) ∙ is) ∙ ap (λ (c : Cell). Some c) (sym copied)
+on_page : (store : CellStore) (shelf : ShelfView) (at page offset : ℕ) (block : List ℕ) (P : Cell → Type 0) (pages : List (List ℕ)) → HoldsAt store shelf at P → page ≡ page_at at → offset ≡ offset_at at
+    → StandsFor store shelf → IsPage store.set page block shelf → shelf.pages store.set ≡ Some pages → OnPage store at offset pages block
+on_page store shelf at page offset block P pages holds e0 e1 stands is told =
+    let there = holds pages told in
+    let t = (stands.told pages told).tiled page block (is pages told) in
+    let letter = (stood_at store.set (layout_of store.shapes pages) at there.0 there.1).0 in
+    record {
+      cell = there.0;
+      stands = there.1;
+      tiled = t;
+      among = sym (stands_at store.set (layout_of store.shapes pages) at page offset (tiles_of store.shapes block) letter (sym e0) (sym e1)
+          (page_tiles store.shapes pages page block (tiles_of store.shapes block) (is pages told) t)) ∙ there.1;
+    }
+
+pub cell_on : (store : CellStore) (shelf : ShelfView) (at page offset : ℕ) (block : List ℕ) (cell : Cell) (P : Cell → Type 0) → HoldsAt store shelf at P → page ≡ page_at at → offset ≡ offset_at at
+    → StandsFor store shelf → IsPage store.set page block shelf → ((tiles : List Tile) (x : Cell) → IsTiling store.shapes block tiles → cell_among offset tiles ≡ Some x → Some cell ≡ Some x) → StandsAt store shelf at (Some cell)
+cell_on store shelf at page offset block cell P holds e0 e1 stands is read = λ pages told.
+    let on = on_page store shelf at page offset block P pages holds e0 e1 stands is told in
+    on.stands ∙ sym (read (tiles_of store.shapes block) on.cell on.tiled on.among)
 
 -- ---- a page that was put
 
 -- the store knows the numbers of the page that was put
 pub stays_put : (store now : CellStore) (old mid new : ShelfView) (n : ℕ) (block : List ℕ) (tiles : List Tile) → StandsFor store old → SameShelf old mid → now.set ≡ store.set → now.shapes ≡ store.shapes
-    → now.spaces.items ≡ slice_set store.spaces.items n (space_of tiles) → IsTiling store.shapes block tiles → HasPut store.set n block mid new → ChangedIn store.set mid new → StaysOpen store now new
+    → now.spaces.pages.items ≡ slice_set store.spaces.pages.items n (space_of tiles) → IsTiling store.shapes block tiles → HasPut store.set n block mid new → ChangedIn store.set mid new → StaysOpen store now new
 stays_put store now old mid new n block tiles stands same set shapes spaces t put changed =
     stays_now store now mid new (λ pages. slice_set pages n block) (stands_same store old mid stands same) set shapes
-    (ap length spaces ∙ length-set store.spaces.items n (space_of tiles) ∙ stands.many ∙ ap length (sym (same.places store.set)) ∙ ap length (sym (changed.places store.set)))
-    put (λ pages knows. knows_put store.shapes store.spaces.items now.spaces.items pages n block tiles knows t spaces)
+    (ap length spaces ∙ length-set store.spaces.pages.items n (space_of tiles) ∙ stands.many ∙ ap length (sym (same.places store.set)) ∙ ap length (sym (changed.places store.set)))
+    put (λ pages knows. knows_put store.shapes store.spaces.pages.items now.spaces.pages.items pages n block tiles knows t spaces)
 
 pub page_again : (set : SetId) (n : ℕ) (block : List ℕ) (old mid : ShelfView) → SameShelf old mid → IsPage set n block old → IsPage set n block mid
 page_again set n block old mid same is = λ pages told. is pages (sym (same.pages set) ∙ told)
@@ -78,11 +99,6 @@ same_front set n was block old mid same is head = λ pages page told among.
     head ∙ ap (take 16) equal
 
 -- ---- a cell that was changed
-
--- tiles with a cell among them, and the block that has another cell in its place
-abbrev pub Rewritten : List Shape → List Tile → List ℕ → ℕ → (Cell → Cell) → Type 0
-Rewritten shapes found block offset change = (before : List Tile) × (cell : Cell) × (after : List Tile) × (found ≡ before ++ Seg offset cell ∷ after)
-    × IsTiling shapes block (before ++ Seg offset (change cell) ∷ after)
 
 pub rewritten : (store : CellStore) (old mid new : ShelfView) (at n offset : ℕ) (change : Cell → Cell) (P : Cell → Type 0) (tiles : List Tile) (was block : List ℕ) → HoldsAt store old at P → n ≡ page_at at → offset ≡ offset_at at
     → SameShelf old mid → IsPage store.set n was old → SameFront was block → HasPut store.set n block mid new → IsTiling store.shapes was tiles → Rewritten store.shapes tiles block offset change
@@ -101,8 +117,22 @@ rewritten store old mid new at n offset change P tiles was block holds e0 e1 sam
     let letter = (stood_at store.set (layout_of store.shapes pages) at there.0 there.1).0 in
     record { before = before; cell = cell; after = after; replaced = r; alters = alters store.shapes store.set at change (layout_of store.shapes pages) (layout_of store.shapes now) before after cell letter first.tiled r })
 
+-- what a change makes of a page, whatever tiles it has, if a cell stands there
+abbrev pub RewritesAll : List Shape → List ℕ → List ℕ → ℕ → (Cell → Cell) → Type 0
+RewritesAll shapes was block offset change = (tiles : List Tile) → IsTiling shapes was tiles → cell_among offset tiles ≢ None → Rewritten shapes tiles block offset change
+
+not_none : (o : Option Cell) (cell : Cell) → o ≡ Some cell → o ≢ None
+not_none o cell is none = let wrong : None ≡ Some cell = sym none ∙ is in cc
+
+pub rewritten_told : (store : CellStore) (old mid new : ShelfView) (at n offset : ℕ) (change : Cell → Cell) (P : Cell → Type 0) (was block : List ℕ) → HoldsAt store old at P → n ≡ page_at at → offset ≡ offset_at at
+    → StandsFor store old → SameShelf old mid → IsPage store.set n was old → SameFront was block → HasPut store.set n block mid new → RewritesAll store.shapes was block offset change → Relays store old new (Rewrites store.set at change)
+rewritten_told store old mid new at n offset change P was block holds e0 e1 stands same page head put all = λ pages told.
+    let on = on_page store old at n offset was P pages holds e0 e1 stands page told in
+    rewritten store old mid new at n offset change P (tiles_of store.shapes was) was block holds e0 e1 same page head put on.tiled
+    (all (tiles_of store.shapes was) on.tiled (not_none (cell_among offset (tiles_of store.shapes was)) on.cell on.among)) pages told
+
 -- the store's numbers don't change with the cell
-pub stands_rewritten : (store : CellStore) (old mid new : ShelfView) (n offset : ℕ) (change : Cell → Cell) (tiles : List Tile) (was block : List ℕ) → StandsFor store old → SameShelf old mid → IsPage store.set n was old
+stands_rewritten : (store : CellStore) (old mid new : ShelfView) (n offset : ℕ) (change : Cell → Cell) (tiles : List Tile) (was block : List ℕ) → StandsFor store old → SameShelf old mid → IsPage store.set n was old
     → HasPut store.set n block mid new → ChangedIn store.set mid new → IsTiling store.shapes was tiles → Rewritten store.shapes tiles block offset change → StandsFor store new
 stands_rewritten store old mid new n offset change tiles was block stands same page put changed t (before, cell, after, split, u) = record {
   many = stands.many ∙ ap length (sym (same.places store.set)) ∙ ap length (sym (changed.places store.set));
@@ -110,11 +140,11 @@ stands_rewritten store old mid new n offset change tiles was block stands same p
       let came = was_put (mid.pages store.set) n block pages (sym put ∙ told) in
       let before_it = sym (same.pages store.set) ∙ came.1 in
       let knows = stands.told came.0 before_it in
-      let there = space_at store.spaces.items (layout_of store.shapes came.0) n tiles knows.spaces_are (page_tiles store.shapes came.0 n was tiles (page came.0 before_it) t) in
+      let there = space_at store.spaces.pages.items (layout_of store.shapes came.0) n tiles knows.spaces_are (page_tiles store.shapes came.0 n was tiles (page came.0 before_it) t) in
       let numbers : space_of (before ++ Seg offset (change cell) ∷ after) ≡ space_of tiles = same_space before offset (change cell) cell after ∙ ap space_of (sym split) in
-      let kept : store.spaces.items ≡ slice_set store.spaces.items n (space_of (before ++ Seg offset (change cell) ∷ after)) =
-      sym (set_there store.spaces.items n (space_of tiles) there) ∙ ap (slice_set store.spaces.items n) (sym numbers) in
-      subst (Knows store.shapes store.spaces.items) came.2 (knows_put store.shapes store.spaces.items store.spaces.items came.0 n block (before ++ Seg offset (change cell) ∷ after) knows u kept);
+      let kept : store.spaces.pages.items ≡ slice_set store.spaces.pages.items n (space_of (before ++ Seg offset (change cell) ∷ after)) =
+      sym (set_there store.spaces.pages.items n (space_of tiles) there) ∙ ap (slice_set store.spaces.pages.items n) (sym numbers) in
+      subst (Knows store.shapes store.spaces.pages.items) came.2 (knows_put store.shapes store.spaces.pages.items store.spaces.pages.items came.0 n block (before ++ Seg offset (change cell) ∷ after) knows u kept);
 }
   where
     set_there : {X : Type 0} (xs : List X) (k : ℕ) (x : X) → slice_get xs k ≡ Some x → slice_set xs k x ≡ xs
@@ -122,6 +152,17 @@ stands_rewritten store old mid new n offset change tiles was block stands same p
 
     was_put : (o : Option (List (List ℕ))) (k : ℕ) (b : List ℕ) (y : List (List ℕ)) → option_map (λ pages. slice_set pages k b) o ≡ Some y → (x : List (List ℕ)) × (o ≡ Some x) × (slice_set x k b ≡ y)
     was_put o k b y is = map_some (λ pages. slice_set pages k b) o y is
+
+pub stands_rewritten_told : (store : CellStore) (old mid new : ShelfView) (at n offset : ℕ) (change : Cell → Cell) (P : Cell → Type 0) (was block : List ℕ) → HoldsAt store old at P → n ≡ page_at at → offset ≡ offset_at at
+    → StandsFor store old → SameShelf old mid → IsPage store.set n was old → HasPut store.set n block mid new → ChangedIn store.set mid new → RewritesAll store.shapes was block offset change → StandsFor store new
+stands_rewritten_told store old mid new at n offset change P was block holds e0 e1 stands same page put changed all = record {
+  many = stands.many ∙ ap length (sym (same.places store.set)) ∙ ap length (sym (changed.places store.set));
+  told = λ pages told.
+      let came = map_some (λ pages. slice_set pages n block) (mid.pages store.set) pages (sym put ∙ told) in
+      let on = on_page store old at n offset was P came.0 holds e0 e1 stands page (sym (same.pages store.set) ∙ came.1) in
+      (stands_rewritten store old mid new n offset change (tiles_of store.shapes was) was block stands same page put changed on.tiled
+      (all (tiles_of store.shapes was) on.tiled (not_none (cell_among offset (tiles_of store.shapes was)) on.cell on.among))).told pages told;
+}
 
 pub on_either : {T E A B C : Type 0} (r : Result T E) → OnOk r A → OnErr r B → (A → C) → (B → C) → C
 on_either (Ok x) a b f h = f a
@@ -199,10 +240,10 @@ relays_push store old new n last are is = λ pages told. record {
   leads = layout_push store.shapes pages (empty_page 1 store.set n) (Hole 16 4080 ∷ []) (empty_tiled store.shapes store.set n);
 }
 
-pub stays_push : (store now : CellStore) (old new : ShelfView) (n : ℕ) (space : Space) → StandsFor store old → now.set ≡ store.set → now.shapes ≡ store.shapes → now.spaces.items ≡ store.spaces.items ++ space ∷ []
+pub stays_push : (store now : CellStore) (old new : ShelfView) (n : ℕ) (space : Space) → StandsFor store old → now.set ≡ store.set → now.shapes ≡ store.shapes → now.spaces.pages.items ≡ store.spaces.pages.items ++ space ∷ []
     → space ≡ space_of (Hole 16 4080 ∷ []) → GrownBy 1 store.set old new → new.pages store.set ≡ option_map (λ pages. pages ++ empty_page 1 store.set n ∷ []) (old.pages store.set) → StaysOpen store now new
 stays_push store now old new n space stands set shapes spaces numbers grown is =
     let one : length (take 1 old.free) ≡ 1 = length-take-le 1 old.free grown.enough in
     stays_now store now old new (λ pages. pages ++ empty_page 1 store.set n ∷ []) stands set shapes
-    (omega (arith, ap length spaces, length_push store.spaces.items space, stands.many, ap length grown.placed, length-append (old.places store.set) (take 1 old.free), one))
-    is (λ pages knows. knows_push store.shapes store.spaces.items now.spaces.items pages (empty_page 1 store.set n) (Hole 16 4080 ∷ []) knows (empty_tiled store.shapes store.set n) (spaces ∙ ap (λ (s : Space). store.spaces.items ++ s ∷ []) numbers))
+    (omega (arith, ap length spaces, length_push store.spaces.pages.items space, stands.many, ap length grown.placed, length-append (old.places store.set) (take 1 old.free), one))
+    is (λ pages knows. knows_push store.shapes store.spaces.pages.items now.spaces.pages.items pages (empty_page 1 store.set n) (Hole 16 4080 ∷ []) knows (empty_tiled store.shapes store.set n) (spaces ∙ ap (λ (s : Space). store.spaces.pages.items ++ s ∷ []) numbers))

@@ -7,9 +7,9 @@ use Rattle.hal_base.specs.ShelfCalls.{ShelfView, SameShelf, Keeps, ChangedIn, Gr
 use Rattle.segment_blocks.specs.declared.tile.Cell.{Cell}
 use Rattle.segment_blocks.specs.declared.tile.Tile.{Tile}
 use Rattle.segment_blocks.specs.declared.tile.Tile.TheVariants.{Hole, Seg}
-use Rattle.free_space.specs.declared.space.Space.{Space}
+use Rattle.segment_blocks.specs.declared.space.Space.{Space}
 use Rattle.free_space.specs.declared.store.CellStore.{CellStore}
-use Rattle.free_space.specs.Space.{largest_hole, space_of, free_bytes}
+use Rattle.segment_blocks.specs.Space.{largest_hole, space_of, free_bytes}
 use Rattle.free_space.specs.Map.{layout_of, cell_at}
 use Rattle.free_space.specs.Placing.{length_of, grown, TakesHole, NoHoleFits, PlacesIn, Places, IsFirstWith, is_due, opened_pages, AppendsIn, Appends, IsLeftEmpty, IsLastPage, HasPlace, NoPlace, IsLeft, IsLastOpen, HasRoom}
 use Rattle.free_space.specs.Store.{StandsFor, Relays, Knows, StaysOpen, GrewBy, added}
@@ -31,7 +31,7 @@ TooSmall spaces len = (k : ℕ) (space : Space) → slice_get spaces k ≡ Some 
 pub none_fits : (spaces : List Space) (layout : List (List Tile)) (len size : ℕ) → len ≡ size → spaces ≡ map space_of layout → TooSmall spaces len → NoHoleFits size layout
 none_fits spaces layout len size same are small = λ n tiles at. subst (λ (m : ℕ). largest_hole tiles < m) same (small n (space_of tiles) (space_at spaces layout n tiles are at))
 
-pub placed_here : (store : CellStore) (old new : ShelfView) (cell : Cell) (at n len count : ℕ) → len ≡ length_of cell → count ≡ 0 → StandsFor store old → IsFirstWith store.spaces.items len n
+pub placed_here : (store : CellStore) (old new : ShelfView) (cell : Cell) (at n len count : ℕ) → len ≡ length_of cell → count ≡ 0 → StandsFor store old → IsFirstWith store.spaces.pages.items len n
     → Relays store old new (PlacesIn store.set cell at n) → Relays store old new (Places store.set cell count at)
 placed_here store old new cell at n len count size none stands first put =
     relays_weaken store old new (PlacesIn store.set cell at n) (Places store.set cell count at) put (λ pages now told told_now p.
@@ -46,14 +46,14 @@ placed_here store old new cell at n len count size none stands first put =
       after = p.after;
       takes = subst (λ (l : List (List Tile)). TakesHole store.set cell at n p.before p.room p.after l next) same p.takes;
       lower_pages = λ k tiles lower among. subst (λ (m : ℕ). largest_hole tiles < m) size
-          (first.before k (space_of tiles) lower (space_at store.spaces.items layout k tiles (stands.told pages told).spaces_are (ap (λ (l : List (List Tile)). slice_get l k) same ∙ among)));
+          (first.before k (space_of tiles) lower (space_at store.spaces.pages.items layout k tiles (stands.told pages told).spaces_are (ap (λ (l : List (List Tile)). slice_get l k) same ∙ among)));
       lower_holes = p.lower_holes;
       needed = λ some. absurd (omega (arith, some, none));
       adds = p.takes.adds;
     })
 
 pub placed_behind : (store mid_store : CellStore) (old mid new : ShelfView) (cell : Cell) (at n len count : ℕ) → len ≡ length_of cell → count ≡ 1 → mid_store.set ≡ store.set → mid_store.shapes ≡ store.shapes
-    → StandsFor store old → TooSmall store.spaces.items len → n ≡ length store.spaces.items → Relays store old mid (λ layout now. now ≡ grown 1 layout)
+    → StandsFor store old → TooSmall store.spaces.pages.items len → n ≡ length store.spaces.pages.items → Relays store old mid (λ layout now. now ≡ grown 1 layout)
     → Relays mid_store mid new (PlacesIn mid_store.set cell at n) → Relays store old new (Places store.set cell count at)
 placed_behind store mid_store old mid new cell at n len count size one set shapes stands small last grew put =
     relays_then store mid_store old mid new
@@ -62,7 +62,7 @@ placed_behind store mid_store old mid new cell at n len count size one set shape
     (relays_weaken store old mid (λ layout now. now ≡ grown 1 layout) (λ layout now. (now ≡ grown 1 layout) × NoHoleFits (length_of cell) layout × (n ≡ length layout)) grew
     (λ pages now told told_now is.
     let are = (stands.told pages told).spaces_are in
-    (is, none_fits store.spaces.items (layout_of store.shapes pages) len (length_of cell) size are small, last ∙ ap length are ∙ length-map (layout_of store.shapes pages) space_of)))
+    (is, none_fits store.spaces.pages.items (layout_of store.shapes pages) len (length_of cell) size are small, last ∙ ap length are ∙ length-map (layout_of store.shapes pages) space_of)))
     (subst (λ (s : SetId). Relays mid_store mid new (PlacesIn s cell at n)) set put)
     (λ layout between next (is, none, many) p.
     let same : between ≡ grown count layout = is ∙ ap (λ (c : ℕ). grown c layout) (sym one) in
@@ -171,7 +171,7 @@ abbrev pub TiledIn : List Shape → ℕ → List (List Tile) → Type 0
 TiledIn shapes n layout = (tiles : List Tile) → slice_get layout n ≡ Some tiles → AreTilesFrom shapes 16 false tiles
 
 tiled_in : (store : CellStore) (old : ShelfView) (pages : List (List ℕ)) (n : ℕ) → StandsFor store old → old.pages store.set ≡ Some pages → TiledIn store.shapes n (layout_of store.shapes pages)
-tiled_in store old pages n stands told = λ tiles at. let (block, among, t) = page_of_layout store.shapes store.spaces.items pages n tiles (stands.told pages told) at in t.tiled
+tiled_in store old pages n stands told = λ tiles at. let (block, among, t) = page_of_layout store.shapes store.spaces.pages.items pages n tiles (stands.told pages told) at in t.tiled
 
 rises : (shapes : List Shape) (set : SetId) (cell : Cell) (fbff count at n room : ℕ) (before tiles : List Tile) (old mid new : List (List Tile)) → mid ≡ grown count old → TiledIn shapes n mid
     → (t : TakesHole set cell at n before room [] mid new) → IsLastPage fbff mid n tiles → (other : ℕ) (standing : Cell) → cell_at set old other ≡ Some standing → other < at
@@ -180,7 +180,7 @@ rises shapes set cell fbff count at n room before tiles old mid new same tiled t
     (λ k others lower among. last.behind k others lower (ap (λ (l : List (List Tile)). slice_get l k) same ∙ among))
 
 pub appended_here : (store : CellStore) (old new : ShelfView) (cell : Cell) (at n len fbff fspf count : ℕ) → len ≡ length_of cell → count ≡ 0 → StandsFor store old
-    → IsLastOpen fbff store.spaces.items n → ((space : Space) → slice_get store.spaces.items n ≡ Some space → HasRoom fspf len space)
+    → IsLastOpen fbff store.spaces.pages.items n → ((space : Space) → slice_get store.spaces.pages.items n ≡ Some space → HasRoom fspf len space)
     → Relays store old new (AppendsIn store.set cell at n) → Relays store old new (Appends store.set cell fbff fspf count at)
 appended_here store old new cell at n len fbff fspf count size none stands last room put =
     relays_weaken store old new (AppendsIn store.set cell at n) (Appends store.set cell fbff fspf count at) put (λ pages now told told_now p.
@@ -189,8 +189,8 @@ appended_here store old new cell at n len fbff fspf count size none stands last 
     let are = (stands.told pages told).spaces_are in
     let same : layout ≡ grown count layout = sym (append-nil layout) ∙ ap (λ (c : ℕ). grown c layout) (sym none) in
     let tiles : List Tile = p.before ++ Hole p.takes.offset p.room ∷ [] in
-    let enough : HasRoom fspf len (space_of tiles) = room (space_of tiles) (space_at store.spaces.items layout n tiles are p.takes.replaced.was) in
-    let is_last : IsLastPage fbff layout n tiles = last_page fbff n store.spaces.items layout tiles are p.takes.replaced.was last in
+    let enough : HasRoom fspf len (space_of tiles) = room (space_of tiles) (space_at store.spaces.pages.items layout n tiles are p.takes.replaced.was) in
+    let is_last : IsLastPage fbff layout n tiles = last_page fbff n store.spaces.pages.items layout tiles are p.takes.replaced.was last in
     record {
       n = n;
       before = p.before;
@@ -249,18 +249,18 @@ Opening fbff fspf len m count layout now = (now ≡ grown count layout) × (leng
 
 pub appended_behind : (store mid_store : CellStore) (old mid new : ShelfView) (cell : Cell) (at n len fbff fspf count : ℕ) → len ≡ length_of cell → fbff ≢ 1 → mid_store.set ≡ store.set → mid_store.shapes ≡ store.shapes
     → StandsFor store old → StandsFor mid_store mid → ((pages : List (List ℕ)) → old.pages store.set ≡ Some pages → All (λ page. length page ≡ 4096) pages)
-    → NoRoomIn store.spaces.items fbff fspf len → count ≡ opened_pages fbff (length store.spaces.items) → n + 1 ≡ length store.spaces.items + count
+    → NoRoomIn store.spaces.pages.items fbff fspf len → count ≡ opened_pages fbff (length store.spaces.pages.items) → n + 1 ≡ length store.spaces.pages.items + count
     → Relays store old mid (λ layout now. now ≡ grown count layout) → Relays mid_store mid new (AppendsIn mid_store.set cell at n) → Relays store old new (Appends store.set cell fbff fspf count at)
 appended_behind store mid_store old mid new cell at n len fbff fspf count size apart set shapes stands mid_stands long none opened number grew put =
-    let m : ℕ = length store.spaces.items in
+    let m : ℕ = length store.spaces.pages.items in
     let turned : StandsFor (record store { spaces = mid_store.spaces }) mid = record {
-      many = subst (λ (s : SetId). length mid_store.spaces.items ≡ length (mid.places s)) set mid_stands.many;
-      told = λ pages told. subst (λ (s : List Shape). Knows s mid_store.spaces.items pages) shapes (mid_stands.told pages (ap mid.pages set ∙ told));
+      many = subst (λ (s : SetId). length mid_store.spaces.pages.items ≡ length (mid.places s)) set mid_stands.many;
+      told = λ pages told. subst (λ (s : List Shape). Knows s mid_store.spaces.pages.items pages) shapes (mid_stands.told pages (ap mid.pages set ∙ told));
     } in
     let first : Relays store old mid (Opening fbff fspf (length_of cell) m count) = relays_weaken store old mid (λ layout now. now ≡ grown count layout) (Opening fbff fspf (length_of cell) m count) grew
     (λ pages now told told_now is.
     let knows = stands.told pages told in
-    (is, sym (ap length knows.spaces_are ∙ length-map (layout_of store.shapes pages) space_of), no_place store.shapes store.spaces.items pages fbff fspf len (length_of cell) size (long pages told) knows none)) in
+    (is, sym (ap length knows.spaces_are ∙ length-map (layout_of store.shapes pages) space_of), no_place store.shapes store.spaces.pages.items pages fbff fspf len (length_of cell) size (long pages told) knows none)) in
     let same_put : Relays store mid new (AppendsIn store.set cell at n) = relays_as mid_store store mid new (λ (s : SetId). AppendsIn s cell at n) set shapes put in
     let second : Relays store mid new (λ between next. AppendsIn store.set cell at n between next × TiledIn store.shapes n between) = relays_weaken store mid new (AppendsIn store.set cell at n)
     (λ between next. AppendsIn store.set cell at n between next × TiledIn store.shapes n between) same_put
@@ -373,7 +373,7 @@ grown_changed count set mid_set old mid new same g changed =
     subst (λ (n : ℕ). GrownBy n set old new) (omega arith) (grown_then count 0 g (changed_grown (changed_set mid_set set mid new same changed)))
 
 -- the store counts the pages that were added
-pub grew_many : (count : ℕ) (store mid_store : CellStore) (old mid : ShelfView) → StandsFor store old → StaysOpen store mid_store mid → GrownBy count store.set old mid → length mid_store.spaces.items ≡ length store.spaces.items + count
+pub grew_many : (count : ℕ) (store mid_store : CellStore) (old mid : ShelfView) → StandsFor store old → StaysOpen store mid_store mid → GrownBy count store.set old mid → length mid_store.spaces.pages.items ≡ length store.spaces.pages.items + count
 grew_many count store mid_store old mid stands stays g =
     omega (
       arith,

@@ -1,5 +1,5 @@
 -- A tile that stands in a page, and a cell that is written over one of its shape.
-use Rattle.std.proofs.Common.{◌≡◌, ℕ, ◌+◌, ◌-◌, ◌<◌, ◌≤◌, false, List, [], ◌∷◌, ◌++◌, length, get_or, take, drop, Some, refl, sym, ap, subst, ◌∙◌, arith}
+use Rattle.std.proofs.Common.{◌≡◌, ℕ, ◌+◌, ◌-◌, ◌≢◌, ◌<◌, ◌≤◌, false, Option, None, List, [], ◌∷◌, ◌++◌, length, get_or, take, drop, Some, refl, sym, ap, subst, ◌∙◌, arith}
 use Rattle.std.specs.Prelude.{slice_get}
 use Rattle.std.proofs.lemmas.List.{length-append, append-nil}
 use Rattle.std.proofs.lemmas.Option.{slice_get_within, get_or_from_slice_get}
@@ -10,7 +10,9 @@ use Rattle.segment_blocks.specs.declared.tile.Tile.TheVariants.{Hole, Seg}
 use Rattle.segment_blocks.specs.Tiling.{cell_length, shape_of, spelled_hole, spelled_cell, spelling, spelled, Fits, IsCell, IsHole, AreTilesFrom, AreTiles, IsTiling, StandAround}
 use Rattle.free_space.specs.declared.change.Change.{Change}
 use Rattle.free_space.specs.declared.change.Change.TheVariants.{Pointers, Twin, Child, Content, Name, Copied}
-use Rattle.free_space.specs.Changes.{changed}
+use Rattle.segment_blocks.specs.TilesOf.{cell_among}
+use Rattle.segment_blocks.proofs.Among.{among_found}
+use Rattle.free_space.specs.Changes.{changed, Rewritten}
 use Rattle.free_space.specs.Clearing.{ends_in_hole}
 use Rattle.free_space.proofs.Runs.{length-hole, length-cell, length-spelled, behind, in_place, split_place, whole_length}
 
@@ -91,3 +93,25 @@ rewritten_tiles shapes old new tiles place at cell other shape t is typed same c
     let long : length (spelled_cell cell) ≡ length (spelled_cell other) = length-cell cell ∙ ap cell_length (sym same) ∙ sym (length-cell other) in
     let rest : AreTilesFrom shapes (16 + length (spelled before) + length (spelled_cell other)) false after = subst (λ (n : ℕ). AreTilesFrom shapes (16 + length (spelled before) + n) false after) long there.1 in
     tiled before after (in_place shapes 16 false before (Seg at cell ∷ after) (Seg at other ∷ after) split.tiled ((there.0.0, still_cell shapes cell other there.0.1 same code fits), rest)) around
+
+-- what was read at an offset is the cell there, if one is
+pub is_read : (o : Option Cell) (cell : Cell) → o ≢ None → ((x : Cell) → o ≡ Some x → Some cell ≡ Some x) → o ≡ Some cell
+is_read None cell some f = absurd (some refl)
+is_read (Some x) cell some f = sym (f x refl)
+
+pub rewritten_there : (shapes : List Shape) (old new : List ℕ) (tiles : List Tile) (at : ℕ) (cell other : Cell) (shape : Shape) (change : Change) → IsTiling shapes old tiles → cell_among at tiles ≡ Some cell
+    → shape ≡ shape_of cell → shape_of (changed change cell) ≡ shape_of cell → other ≡ changed change cell → Fits other
+    → ((before run after : List Tile) → IsTiling shapes old (before ++ (run ++ after)) → StandAround old (16 + length (spelled before)) (16 + length (spelled before) + length (spelled run)) before after)
+    → ((before after : List Tile) → AreTiles shapes (before ++ Seg at other ∷ after) → StandAround old at (at + cell_length shape) before after → IsTiling shapes new (before ++ Seg at other ∷ after))
+    → Rewritten shapes tiles new at (changed change)
+rewritten_there shapes old new tiles at cell other shape change t is typed same made fits opened tiled =
+    let found = among_found at tiles cell is in
+    let place : ℕ = found.0 in
+    let done : IsTiling shapes new (take place tiles ++ Seg at other ∷ drop (place + 1) tiles) =
+    rewritten_tiles shapes old new tiles place at cell other shape t found.1 typed (ap shape_of made ∙ same) (ap (λ (x : Cell). x.code) made ∙ changed_code change cell) fits opened tiled in (
+      take place tiles,
+      cell,
+      drop (place + 1) tiles,
+      split_place tiles place (Seg at cell) found.1,
+      subst (λ (x : Cell). IsTiling shapes new (take place tiles ++ Seg at x ∷ drop (place + 1) tiles)) made done,
+    )

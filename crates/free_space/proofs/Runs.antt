@@ -11,7 +11,8 @@ use Rattle.segment_blocks.specs.Tiling.{cell_length, shape_of, spelled_hole, spe
 use Rattle.segment_blocks.proofs.Holes.{length-spelled_hole}
 use Rattle.segment_blocks.proofs.Cells.{length-spelled_cell}
 use Rattle.segment_blocks.proofs.Tilings.{spelled-append}
-use Rattle.free_space.specs.Gaps.{left_over, tile_offset}
+use Rattle.segment_blocks.specs.Space.{left_over}
+use Rattle.free_space.specs.Gaps.{tile_offset}
 use Rattle.free_space.specs.Clearing.{ends_in_hole}
 
 pub length-hole : (len : ℕ) → 4 ≤ len → length (spelled_hole len) ≡ len

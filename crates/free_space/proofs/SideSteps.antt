@@ -437,18 +437,18 @@ not_at_zero side shelf at cell stands is =
     let (store, l) = store_of side shelf place stands below in
     let told_there : shelf.pages store.set ≡ Some pages = ap shelf.pages l.set ∙ told in
     not_zero store.shapes store.set (layout_of store.shapes pages) at cell
-    (λ tiles among. let (block, found, t) = page_of_layout store.shapes store.spaces.items pages (page_at at) tiles (l.stands.told pages told_there) among in t.tiled)
+    (λ tiles among. let (block, found, t) = page_of_layout store.shapes store.spaces.pages.items pages (page_at at) tiles (l.stands.told pages told_there) among in t.tiled)
     (sym (same_in side place store shelf pages at l) ∙ there)
 
 pub pages_of_letter : (side : SideCells) (shelf : ShelfView) (place : ℕ) (pages : List (List ℕ)) → StandsForSide side shelf → place < 10 → shelf.pages (lettered side.first place) ≡ Some pages → All (λ page. length page ≡ 4096) pages
     → ArePages side.shapes (layout_of side.shapes pages) × (length (layout_of side.shapes pages) ≡ length pages)
 pages_of_letter side shelf place pages stands below told whole =
     let (store, l) = store_of side shelf place stands below in
-    let knows : Knows store.shapes store.spaces.items pages = l.stands.told pages (ap shelf.pages l.set ∙ told) in
-    let mine : Knows side.shapes store.spaces.items pages = subst (λ (s : List Shape). Knows s store.spaces.items pages) l.shapes knows in (
+    let knows : Knows store.shapes store.spaces.pages.items pages = l.stands.told pages (ap shelf.pages l.set ∙ told) in
+    let mine : Knows side.shapes store.spaces.pages.items pages = subst (λ (s : List Shape). Knows s store.spaces.pages.items pages) l.shapes knows in (
       record {
         tiled = λ k tiles is.
-            let (block, among, t) = page_of_layout side.shapes store.spaces.items pages k tiles mine is in
+            let (block, among, t) = page_of_layout side.shapes store.spaces.pages.items pages k tiles mine is in
             let long : length block ≡ 4096 = ap length (sym (get_or_from_slice_get pages k block [] among)) ∙ whole k [] (slice_get_within pages k block among) in
             (t.tiled, omega (arith, long, ap length t.whole, length-drop 16 block));
       },

@@ -14,9 +14,9 @@ use Rattle.segment_blocks.specs.declared.tile.Tile.{Tile}
 use Rattle.segment_blocks.specs.Tiling.{IsTiling}
 use Rattle.segment_blocks.specs.TilesOf.{tiles_of}
 use Rattle.segment_blocks.proofs.TilesOf.{tiling_is}
-use Rattle.free_space.specs.declared.space.Space.{Space}
+use Rattle.segment_blocks.specs.declared.space.Space.{Space}
 use Rattle.free_space.specs.declared.store.CellStore.{CellStore}
-use Rattle.free_space.specs.Space.{space_of}
+use Rattle.segment_blocks.specs.Space.{space_of}
 use Rattle.free_space.specs.Changes.{Replaces}
 use Rattle.free_space.specs.Map.{layout_of}
 use Rattle.free_space.specs.Placing.{grown}
@@ -123,15 +123,15 @@ stands_same store old new stands same = record {
 pub stays_same : (store : CellStore) (old new : ShelfView) → StandsFor store old → SameShelf old new → StaysOpen store store new
 stays_same store old new stands same = record { set = refl; shapes = refl; stands = stands_same store old new stands same }
 
-pub stays_kept : (store now : CellStore) (old new : ShelfView) → StandsFor store old → SameShelf old new → now.set ≡ store.set → now.shapes ≡ store.shapes → now.spaces.items ≡ store.spaces.items → StaysOpen store now new
+pub stays_kept : (store now : CellStore) (old new : ShelfView) → StandsFor store old → SameShelf old new → now.set ≡ store.set → now.shapes ≡ store.shapes → now.spaces.pages.items ≡ store.spaces.pages.items → StaysOpen store now new
 stays_kept store now old new stands same set shapes spaces = record {
   set = set;
   shapes = shapes;
   stands = record {
     many = ap length spaces ∙ stands.many ∙ ap length (sym (same.places store.set)) ∙ ap (λ (s : SetId). length (new.places s)) (sym set);
     told = λ pages told.
-        let knows : Knows store.shapes store.spaces.items pages = stands.told pages (sym (same.pages store.set) ∙ ap new.pages (sym set) ∙ told) in
-        subst (λ (l : List Space). Knows now.shapes l pages) (sym spaces) (subst (λ (s : List Shape). Knows s store.spaces.items pages) (sym shapes) knows);
+        let knows : Knows store.shapes store.spaces.pages.items pages = stands.told pages (sym (same.pages store.set) ∙ ap new.pages (sym set) ∙ told) in
+        subst (λ (l : List Space). Knows now.shapes l pages) (sym spaces) (subst (λ (s : List Shape). Knows s store.spaces.pages.items pages) (sym shapes) knows);
   };
 }
 
@@ -140,8 +140,8 @@ stays_then a b c mid new first second = record { set = second.set ∙ first.set;
 
 -- the pages have become a function of what they were, and the store knows them
 pub stays_now : (store now : CellStore) (old new : ShelfView) (f : List (List ℕ) → List (List ℕ)) → StandsFor store old → now.set ≡ store.set → now.shapes ≡ store.shapes
-    → length now.spaces.items ≡ length (new.places store.set) → new.pages store.set ≡ option_map f (old.pages store.set)
-    → ((pages : List (List ℕ)) → Knows store.shapes store.spaces.items pages → Knows store.shapes now.spaces.items (f pages)) → StaysOpen store now new
+    → length now.spaces.pages.items ≡ length (new.places store.set) → new.pages store.set ≡ option_map f (old.pages store.set)
+    → ((pages : List (List ℕ)) → Knows store.shapes store.spaces.pages.items pages → Knows store.shapes now.spaces.pages.items (f pages)) → StaysOpen store now new
 stays_now store now old new f stands set shapes many is known = record {
   set = set;
   shapes = shapes;
@@ -149,7 +149,7 @@ stays_now store now old new f stands set shapes many is known = record {
     many = many ∙ ap (λ (s : SetId). length (new.places s)) (sym set);
     told = λ pages told.
         let was = map_some f (old.pages store.set) pages (sym is ∙ ap new.pages (sym set) ∙ told) in
-        subst (Knows now.shapes now.spaces.items) was.2 (subst (λ (s : List Shape). Knows s now.spaces.items (f was.0)) (sym shapes) (known was.0 (stands.told was.0 was.1)));
+        subst (Knows now.shapes now.spaces.pages.items) was.2 (subst (λ (s : List Shape). Knows s now.spaces.pages.items (f was.0)) (sym shapes) (known was.0 (stands.told was.0 was.1)));
   };
 }
 

@@ -1,13 +1,15 @@
 -- What the calls on one data set make of its layout. Each names the tiles that give way; all others stay.
 use Rattle.std.specs.Prelude.{◌≡◌, ℕ, true, List, [], ◌∷◌, ◌++◌, slice_get, slice_set, Some}
 use Rattle.hal_base.specs.declared.pages.SetId.{SetId}
+use Rattle.hal_base.specs.declared.place.Shape.{Shape}
 use Rattle.segment_blocks.specs.declared.tile.Cell.{Cell}
 use Rattle.segment_blocks.specs.declared.tile.Tile.{Tile}
 use Rattle.segment_blocks.specs.declared.tile.Tile.TheVariants.{Hole, Seg}
+use Rattle.segment_blocks.specs.Tiling.{IsTiling}
 use Rattle.free_space.specs.declared.change.Change.{Change}
 use Rattle.free_space.specs.declared.change.Change.TheVariants.{Pointers, Twin, Child, Content, Name, Copied}
 use Rattle.free_space.specs.Address.{page_at, offset_at}
-use Rattle.free_space.specs.Space.{AreHoles}
+use Rattle.segment_blocks.specs.Space.{AreHoles}
 use Rattle.free_space.specs.Map.{Alters, Drops, cell_at}
 
 -- in page n a run of tiles gives way to another
@@ -45,3 +47,8 @@ changed (Child place to) cell = record cell { children = slice_set cell.children
 changed (Content content) cell = record cell { content = content }
 changed (Name name) cell = record cell { name = name }
 changed Copied cell = record cell { copied = true }
+
+-- tiles with a cell among them, and the block that has another cell in its place
+abbrev pub Rewritten : List Shape → List Tile → List ℕ → ℕ → (Cell → Cell) → Type 0
+Rewritten shapes found block offset change = (before : List Tile) × (cell : Cell) × (after : List Tile) × (found ≡ before ++ Seg offset cell ∷ after)
+    × IsTiling shapes block (before ++ Seg offset (change cell) ∷ after)

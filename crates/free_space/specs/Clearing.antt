@@ -4,7 +4,7 @@ use Rattle.segment_blocks.specs.declared.tile.Cell.{Cell}
 use Rattle.segment_blocks.specs.declared.tile.Tile.{Tile}
 use Rattle.segment_blocks.specs.declared.tile.Tile.TheVariants.{Hole, Seg}
 use Rattle.segment_blocks.specs.Tiling.{is_hole}
-use Rattle.free_space.specs.Space.{AreHoles}
+use Rattle.segment_blocks.specs.Space.{AreHoles}
 
 -- whether a hole ends where these tiles do, where one does before them or none
 abbrev pub ends_in_hole : Bool → List Tile → Bool

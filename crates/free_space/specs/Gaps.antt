@@ -1,9 +1,9 @@
 -- Tiles that stand at a place in a list of tiles.
-use Rattle.std.specs.Prelude.{◌≡◌, ℕ, zero, suc, ◌+◌, ◌<◌, ◌≤◌, List, [], ◌∷◌, length, take, slice_get, Some}
+use Rattle.std.specs.Prelude.{◌≡◌, ℕ, ◌+◌, ◌<◌, ◌≤◌, List, length, take, slice_get, Some}
 use Rattle.segment_blocks.specs.declared.tile.Tile.{Tile}
 use Rattle.segment_blocks.specs.declared.tile.Tile.TheVariants.{Hole, Seg}
 use Rattle.free_space.specs.declared.tiles.Gap.{Gap}
-use Rattle.free_space.specs.Space.{largest_hole}
+use Rattle.segment_blocks.specs.Space.{largest_hole}
 
 -- a hole among the tiles, in which so many bytes have place
 pub record IsGap (tiles : List Tile) (len : ℕ) (gap : Gap) : Type 0 where
@@ -19,11 +19,6 @@ pub record IsFirstGap (tiles : List Tile) (len : ℕ) (gap : Gap) : Type 0 where
 pub record IsLastGap (tiles : List Tile) (len : ℕ) (gap : Gap) : Type 0 where
   pub is : IsGap tiles len gap
   pub last : gap.place + 1 ≡ length tiles
-
--- what is left of a hole, none where nothing is
-abbrev pub left_over : ℕ → ℕ → List Tile
-left_over at zero = []
-left_over at (suc len) = Hole at (suc len) ∷ []
 
 -- where a tile begins in its page
 abbrev pub tile_offset : Tile → ℕ

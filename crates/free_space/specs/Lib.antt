@@ -1,10 +1,10 @@
 pub mod Address
-pub mod Space
 pub mod Gaps
 pub mod Clearing
 pub mod Map
 pub mod Changes
 pub mod Placing
+pub mod Maxima
 pub mod Store
 pub mod Opening
 pub mod Listing

@@ -4,7 +4,7 @@ use Rattle.std.specs.Coded.{le_prop, Coded-set, codes}
 use Rattle.hal_base.specs.declared.place.Shape.{Shape}
 use Rattle.hal_base.specs.ShelfCalls.{ShelfView}
 use Rattle.segment_blocks.specs.OneProof.{IsTiling-prop}
-use Rattle.free_space.specs.declared.space.Space.{Space}
+use Rattle.segment_blocks.specs.declared.space.Space.{Space}
 use Rattle.free_space.specs.declared.store.CellStore.{CellStore}
 use Rattle.free_space.specs.Store.{Knows, StandsFor}
 use Rattle.free_space.specs.Side.{IsFirst}

@@ -3,8 +3,8 @@ use Rattle.std.specs.Prelude.{◌≡◌, ℕ, ◌<◌, List, slice_get, Some}
 use Rattle.hal_base.specs.declared.place.Shape.{Shape}
 use Rattle.segment_blocks.specs.declared.tile.Tile.{Tile}
 use Rattle.segment_blocks.specs.Tiling.{IsTiling, StopsAt}
-use Rattle.free_space.specs.declared.space.Space.{Space}
-use Rattle.free_space.specs.Space.{space_of}
+use Rattle.segment_blocks.specs.declared.space.Space.{Space}
+use Rattle.segment_blocks.specs.Space.{space_of}
 
 -- page n is tiled, and these are the numbers of its tiles
 pub record IsSpaceOf (shapes : List Shape) (pages : List (List ℕ)) (n : ℕ) (space : Space) : Type 0 where

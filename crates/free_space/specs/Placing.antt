@@ -5,10 +5,10 @@ use Rattle.segment_blocks.specs.declared.tile.Cell.{Cell}
 use Rattle.segment_blocks.specs.declared.tile.Tile.{Tile}
 use Rattle.segment_blocks.specs.declared.tile.Tile.TheVariants.{Hole, Seg}
 use Rattle.segment_blocks.specs.Tiling.{cell_length, shape_of}
-use Rattle.free_space.specs.declared.space.Space.{Space}
+use Rattle.segment_blocks.specs.declared.space.Space.{Space}
 use Rattle.free_space.specs.Address.{address}
-use Rattle.free_space.specs.Space.{largest_hole, free_bytes, last_hole, AreHoles}
-use Rattle.free_space.specs.Gaps.{left_over}
+use Rattle.segment_blocks.specs.Space.{largest_hole, free_bytes, last_hole, AreHoles}
+use Rattle.segment_blocks.specs.Space.{left_over}
 use Rattle.free_space.specs.Changes.{Replaces}
 use Rattle.free_space.specs.Map.{Adds, cell_at}
 

@@ -8,9 +8,9 @@ use Rattle.segment_blocks.specs.declared.tile.Cell.{Cell}
 use Rattle.segment_blocks.specs.declared.tile.Tile.{Tile}
 use Rattle.segment_blocks.specs.Tiling.{shape_of, IsTiling}
 use Rattle.segment_blocks.specs.TilesOf.{tiles_of}
-use Rattle.free_space.specs.declared.space.Space.{Space}
+use Rattle.segment_blocks.specs.declared.space.Space.{Space}
 use Rattle.free_space.specs.declared.store.CellStore.{CellStore}
-use Rattle.free_space.specs.Space.{space_of}
+use Rattle.segment_blocks.specs.Space.{space_of}
 use Rattle.free_space.specs.Map.{layout_of, cell_at}
 use Rattle.free_space.specs.Placing.{grown, Places, Appends}
 
@@ -26,8 +26,8 @@ pub record Knows (shapes : List Shape) (spaces : List Space) (pages : List (List
 -- The store stands for its data set as the shelf has it: it knows how many pages there are, and where they are told the
 -- numbers of each. It is a fact with one proof (StandsFor-prop), so that a type can keep it.
 pub record StandsFor (store : CellStore) (shelf : ShelfView) : Type 0 where
-  pub many : length store.spaces.items ≡ length (shelf.places store.set)
-  pub told : (pages : List (List ℕ)) → shelf.pages store.set ≡ Some pages → Knows store.shapes store.spaces.items pages
+  pub many : length store.spaces.pages.items ≡ length (shelf.places store.set)
+  pub told : (pages : List (List ℕ)) → shelf.pages store.set ≡ Some pages → Knows store.shapes store.spaces.pages.items pages
 
 -- the store has the data set and the types that it had, and stands for that set
 pub record StaysOpen (before now : CellStore) (shelf : ShelfView) : Type 0 where

@@ -1,15 +1,14 @@
 // A new cell past the last cell of the data set.
 ghost use Rattle.std.specs.Prelude.{◌≡◌, ◌≢◌, ℕ, ◌+◌, ◌-◌, ◌<◌, ◌≤◌, ◌^◌, length, slice_get, Some, IfOk, IfSome, IfNone, MatchResult, OnOk, OnErr, IsErrOf, IsTrue, ◌↔◌};
 ghost use Rattle.hal_base.specs.ShelfCalls.{SameShelf, Keeps, OnlyChanges};
-ghost use Rattle.free_space.specs.declared.space.Space.{Space as SpaceOf};
+ghost use Rattle.segment_blocks.specs.declared.space.Space.{Space as SpaceOf};
 ghost use Rattle.free_space.specs.Placing.{length_of, is_due, opened_pages, AppendsIn, NoPlace, IsLeft, IsLastOpen, HasRoom};
 ghost use Rattle.free_space.specs.Store.{StandsFor, StaysOpen, Relays, AppendsAt, GetsEmpty, Grows, IsSaid, added, GrewBy, IsTyped};
 
 use crate::CellStore;
-use crate::space::Space;
 use crate::tiles::last_gap;
 use hal_base::{BLOCK, PageFault, Shelf};
-use segment_blocks::{Cell, cell_size};
+use segment_blocks::{Cell, Space, cell_size};
 
 /// A page of this number is left empty by fbff, as long as no other call puts a cell there.
 fn is_due(fbff: u8, page: usize) -> bool
@@ -98,15 +97,15 @@ impl CellStore {
         requires live { IsTrue (H.seen shelf.old).live }
         requires stands { StandsFor self.old (H.seen shelf.old) }
         requires takes { IsTrue ((H.seen shelf.old).takes self.old.set 1) }
-        ensures number { IfOk result (λ n. n + 1 ≡ length self.old.spaces.items + opened_pages fbff (length self.old.spaces.items)) }
-        ensures grown { MatchResult result (λ n. GrewBy (opened_pages fbff (length self.old.spaces.items)) self.old (H.seen shelf.old) (H.seen shelf.new))
+        ensures number { IfOk result (λ n. n + 1 ≡ length self.old.spaces.pages.items + opened_pages fbff (length self.old.spaces.pages.items)) }
+        ensures grown { MatchResult result (λ n. GrewBy (opened_pages fbff (length self.old.spaces.pages.items)) self.old (H.seen shelf.old) (H.seen shelf.new))
             (λ fault. GrewBy (added self.old.set (H.seen shelf.old) (H.seen shelf.new)) self.old (H.seen shelf.old) (H.seen shelf.new)) }
-        ensures few { added self.old.set (H.seen shelf.old) (H.seen shelf.new) ≤ opened_pages fbff (length self.old.spaces.items) }
-        ensures no_room { IsErrOf result PageFault.NoRoom → length (H.seen shelf.old).free < opened_pages fbff (length self.old.spaces.items) }
+        ensures few { added self.old.set (H.seen shelf.old) (H.seen shelf.new) ≤ opened_pages fbff (length self.old.spaces.pages.items) }
+        ensures no_room { IsErrOf result PageFault.NoRoom → length (H.seen shelf.old).free < opened_pages fbff (length self.old.spaces.pages.items) }
         ensures stays { StaysOpen self.old self.new (H.seen shelf.new) }
         ensures keeps { Keeps (H.steady shelf.old shelf.new) (IsErrOf result PageFault.Failed) (H.seen shelf.old) (H.seen shelf.new) }
     {
-        if !is_due(fbff, self.spaces.len()) {
+        if !is_due(fbff, self.spaces.pages.len()) {
             return self.add_page(shelf);
         }
         let _due = self.add_page(shelf)?;
@@ -140,7 +139,7 @@ impl CellStore {
         ensures leaves { Grows self.old (H.steady shelf.old shelf.new) (IsErrOf result PageFault.Failed) (H.seen shelf.old) (H.seen shelf.new) }
     {
         let len = cell_size(self.shape_for(cell));
-        match page_with_room(&self.spaces, fbff, fspf, len) {
+        match page_with_room(&self.spaces.pages, fbff, fspf, len) {
             Some(page) => self.append_in(shelf, page as u16, cell),
             None => {
                 let page = self.open_page(shelf, fbff)?;

@@ -1,44 +1,41 @@
 // One cell read, and changed where it stands.
-ghost use Rattle.std.specs.Prelude.{◌≡◌, ◌∷◌, ◌++◌, List as ListOf, take, Some, IfOk, OnOk, OnErr, IsErrOf, IsTrue, ⊤};
+ghost use Rattle.std.specs.Prelude.{◌≡◌, ◌≢◌, List as ListOf, None, Some, take, IfOk, OnOk, OnErr, IsErrOf, IsTrue, ⊤};
 ghost use Rattle.hal_base.specs.ShelfCalls.{SameShelf, OnlyReads, OnlyChanges};
-ghost use Rattle.segment_blocks.specs.declared.tile.Cell.{Cell as CellOf};
 ghost use Rattle.segment_blocks.specs.declared.tile.Tile.{Tile as TileOf};
 ghost use Rattle.segment_blocks.specs.Tiling.{IsTiling};
-ghost use Rattle.free_space.specs.Changes.{changed, Rewrites};
+ghost use Rattle.segment_blocks.specs.TilesOf.{cell_among};
+ghost use Rattle.free_space.specs.Changes.{changed, Rewrites, Rewritten};
 ghost use Rattle.free_space.specs.Store.{StandsFor, Relays, HoldsAt, StandsAt};
 
 use crate::CellStore;
 use crate::address::{has_letter, offset_of, page_of};
-use crate::change::{Change, copy_cell};
-use crate::tiles::find_cell;
+use crate::change::Change;
 use hal_base::{BLOCK, Memory, PageFault, Shape, Shelf};
-use segment_blocks::{Cell, Tile, others_stand_around, write_cell};
+use segment_blocks::{Cell, find_at, others_stand_around, read_at, write_cell};
 use std::alloc::Global;
 
-/// Changes the cell at an offset of a page with these tiles. Where none stands there, or the change would give it
-/// another shape, it is want of memory: then the page was read otherwise than before.
+/// Changes the cell at an offset of a page. Where none stands there, or the change would give it another shape, it is want
+/// of memory: then the page was read otherwise than before.
 fn rewrite_in(
     alloc: Global,
     shapes: &[Shape],
     block: &mut [u8; BLOCK],
-    tiles: &[Tile],
     offset: u16,
     change: Change,
 ) -> Result<(), Memory>
-    requires tiled { IsTiling shapes.now block.old tiles.now }
-    ensures tiled { OnOk result ((before : ListOf TileOf) × (cell : CellOf) × (after : ListOf TileOf) × (tiles.now ≡ before ++ TileOf.Seg offset cell ∷ after)
-        × IsTiling shapes.now block.new (before ++ TileOf.Seg offset (changed change cell) ∷ after)) }
+    ensures tiled { OnOk result ((tiles : ListOf TileOf) → IsTiling shapes.now block.old tiles → cell_among offset tiles ≢ None
+        → Rewritten shapes.now tiles block.new offset (changed change)) }
     ensures head { take 16 block.new ≡ take 16 block.old }
 {
     others_stand_around();
-    let Some((_, cell)) = find_cell(tiles, offset) else {
+    let Some(cell) = read_at(alloc, shapes, block, offset)? else {
         return Err(Memory);
     };
-    if !change.suits(cell) {
+    if !change.suits(&cell) {
         return Err(Memory);
     }
     let shape = shapes[usize::from(cell.code) - 1];
-    let new = change.applied(alloc, cell)?;
+    let new = change.applied(alloc, &cell)?;
     write_cell(shape, block, offset, &new);
     Ok(())
 }
@@ -57,16 +54,13 @@ impl CellStore {
             return Ok(None);
         }
         let page = page_of(at);
-        if usize::from(page) >= self.spaces.len() {
+        if usize::from(page) >= self.spaces.pages.len() {
             return Ok(None);
         }
         let mut block = [0; BLOCK];
-        let tiles = self.read_page(shelf, page, &mut block)?;
-        let Some((_, cell)) = find_cell(tiles.as_slice(), offset_of(at)) else {
-            return Ok(None);
-        };
-        match copy_cell(self.alloc, cell) {
-            Ok(cell) => Ok(Some(cell)),
+        self.fetch(shelf, page, &mut block)?;
+        match find_at(self.alloc, self.shapes.as_slice(), &block, offset_of(at)) {
+            Ok(found) => Ok(found),
             Err(Memory) => Err(PageFault::Memory),
         }
     }
@@ -81,9 +75,11 @@ impl CellStore {
         ensures stands { StandsFor self.now (H.seen shelf.new) }
         ensures leaves { OnlyReads 1 (H.steady shelf.old shelf.new) (IsErrOf result PageFault.Failed) (H.seen shelf.old) (H.seen shelf.new) }
     {
-        match self.find(shelf, at)? {
-            Some(cell) => Ok(cell),
-            None => Err(PageFault::Memory),
+        let mut block = [0; BLOCK];
+        self.fetch(shelf, page_of(at), &mut block)?;
+        match read_at(self.alloc, self.shapes.as_slice(), &block, offset_of(at)) {
+            Ok(Some(cell)) => Ok(cell),
+            _ => Err(PageFault::Memory),
         }
     }
 
@@ -105,17 +101,9 @@ impl CellStore {
     {
         let page = page_of(at);
         let mut block = [0; BLOCK];
-        let tiles = self.read_page(shelf, page, &mut block)?;
+        self.fetch(shelf, page, &mut block)?;
         let shapes = self.shapes.as_slice();
-        let offset = offset_of(at);
-        let Ok(()) = rewrite_in(
-            self.alloc,
-            shapes,
-            &mut block,
-            tiles.as_slice(),
-            offset,
-            change,
-        ) else {
+        let Ok(()) = rewrite_in(self.alloc, shapes, &mut block, offset_of(at), change) else {
             return Err(PageFault::Memory);
         };
         self.stage(shelf, page, &block)

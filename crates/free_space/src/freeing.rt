@@ -31,7 +31,7 @@ impl CellStore {
         };
         let space = clear(&mut block, found, place);
         self.stage(shelf, page, &block)?;
-        self.spaces[usize::from(page)] = space;
+        self.spaces.set(usize::from(page), space);
         Ok(())
     }
 }

@@ -5,14 +5,13 @@ ghost use Rattle.free_space.specs.Store.{Knows, StandsFor};
 ghost use Rattle.free_space.specs.Opening.{IsSpaceOf, BreaksAt, FirstBreaksAt};
 
 use crate::CellStore;
-use crate::space::Space;
+use crate::spaces::Spaces;
 use hal_base::{BLOCK, List, SetId, Shape, Shelf, StoreFault};
-use segment_blocks::{BlockFault, parse_block};
+use segment_blocks::{Space, measure_block};
 use std::alloc::Global;
 
 /// The numbers of one page.
 fn read_space<H: Shelf>(
-    alloc: Global,
     shelf: &mut H,
     set: SetId,
     shapes: &[Shape],
@@ -30,10 +29,9 @@ fn read_space<H: Shelf>(
     if shelf.fetch_page(set, page, &mut block).is_err() {
         return Err(StoreFault::Failed);
     }
-    match parse_block(alloc, shapes, &block) {
-        Ok(tiles) => Ok(Space::none().with_all(tiles.as_slice())),
-        Err(BlockFault::BadTile { offset }) => Err(StoreFault::BadTile { page, offset }),
-        Err(BlockFault::Memory) => Err(StoreFault::Memory),
+    match measure_block(shapes, &block) {
+        Ok(space) => Ok(space),
+        Err(offset) => Err(StoreFault::BadTile { page, offset }),
     }
 }
 
@@ -43,21 +41,24 @@ fn read_spaces<H: Shelf>(
     shelf: &mut H,
     set: SetId,
     shapes: &[Shape],
-) -> Result<Vec<Space>, StoreFault>
+) -> Result<Spaces, StoreFault>
     requires live { IsTrue (H.seen shelf.old).live }
-    ensures many { IfOk result (λ spaces. length spaces.items ≡ length ((H.seen shelf.old).places set)) }
-    ensures layout { IfOk result (λ spaces. (pages : ListOf (ListOf ℕ)) → (H.seen shelf.old).pages set ≡ Some pages → Knows shapes.now spaces.items pages) }
+    ensures many { IfOk result (λ spaces. length spaces.pages.items ≡ length ((H.seen shelf.old).places set)) }
+    ensures layout { IfOk result (λ spaces. (pages : ListOf (ListOf ℕ)) → (H.seen shelf.old).pages set ≡ Some pages → Knows shapes.now spaces.pages.items pages) }
     ensures bad { (n offset : ℕ) → result ≡ Err (StoreFault.BadTile n offset) → (pages : ListOf (ListOf ℕ)) → (H.seen shelf.old).pages set ≡ Some pages
         → FirstBreaksAt shapes.now pages n offset }
     ensures leaves { OnlyReads (length ((H.seen shelf.old).places set)) (H.steady shelf.old shelf.new) (IsErrOf result StoreFault.Failed)
         (H.seen shelf.old) (H.seen shelf.new) }
 {
-    let mut spaces = Vec::new(alloc);
+    let Ok(mut spaces) = Spaces::none(alloc) else {
+        return Err(StoreFault::Memory);
+    };
     for page in 0..shelf.pages(set) {
-        let space = read_space(alloc, shelf, set, shapes, page as u16)?;
-        if spaces.push(space).is_err() {
+        let space = read_space(shelf, set, shapes, page as u16)?;
+        let Ok(()) = spaces.make_slot() else {
             return Err(StoreFault::Memory);
-        }
+        };
+        spaces.add(space);
     }
     Ok(spaces)
 }

@@ -4,14 +4,13 @@ ghost use Rattle.hal_base.specs.declared.place.Shape.{Shape as ShapeOf};
 ghost use Rattle.segment_blocks.specs.declared.tile.Cell.{Cell as CellOf};
 ghost use Rattle.segment_blocks.specs.declared.tile.Tile.{Tile as TileOf};
 ghost use Rattle.segment_blocks.specs.Tiling.{cell_length, spelled, IsTiling};
-ghost use Rattle.free_space.specs.Space.{space_of};
-ghost use Rattle.free_space.specs.Gaps.{left_over};
+ghost use Rattle.segment_blocks.specs.Space.{space_of};
+ghost use Rattle.segment_blocks.specs.Space.{left_over};
 ghost use Rattle.free_space.specs.Clearing.{IsCleared};
 
-use crate::space::Space;
 use crate::tiles::{Gap, start_of, without_first_hole, without_last_hole};
 use hal_base::{BLOCK, Shape};
-use segment_blocks::{Cell, Tile, cell_size, others_stand_around, write_cell, write_hole};
+use segment_blocks::{Cell, Space, Tile, cell_size, others_stand_around, write_cell, write_hole};
 
 /// Puts a cell at the begin of a hole. What is left of it stays a hole.
 pub(crate) fn fill(block: &mut [u8; BLOCK], shape: Shape, gap: Gap, cell: &Cell)

@@ -5,7 +5,6 @@ ghost use Rattle.free_space.specs.Placing.{length_of, NoHoleFits, PlacesIn};
 ghost use Rattle.free_space.specs.Store.{StandsFor, StaysOpen, Relays, PlacesAt, GetsEmpty, Grows, IsSaid, added, IsTyped};
 
 use crate::CellStore;
-use crate::growing::first_page;
 use crate::tiles::first_gap;
 use hal_base::{BLOCK, PageFault, Shelf};
 use segment_blocks::{Cell, cell_size};
@@ -54,7 +53,7 @@ impl CellStore {
         ensures leaves { Grows self.old (H.steady shelf.old shelf.new) (IsErrOf result PageFault.Failed) (H.seen shelf.old) (H.seen shelf.new) }
     {
         let len = cell_size(self.shape_for(cell));
-        match first_page(&self.spaces, len) {
+        match self.spaces.first_page(len) {
             Some(page) => self.place_in(shelf, page as u16, cell),
             None => {
                 let page = self.add_page(shelf)?;

@@ -4,7 +4,7 @@ ghost use Rattle.hal_base.specs.ShelfCalls.{SameShelf, OnlyReads, OnlyChanges};
 ghost use Rattle.segment_blocks.specs.Tiling.{IsTiling};
 ghost use Rattle.free_space.specs.Store.{StandsFor, IsPage, HasPut, SameFront};
 
-use crate::space::Space;
+use crate::spaces::Spaces;
 use hal_base::{BLOCK, List, PageFault, SetId, Shape, Shelf};
 use segment_blocks::{Tile, parse_block};
 use std::alloc::Global;
@@ -16,10 +16,34 @@ pub struct CellStore {
     pub(crate) alloc: Global,
     pub(crate) set: SetId,
     pub(crate) shapes: List<Shape>,
-    pub(crate) spaces: Vec<Space>,
+    pub(crate) spaces: Spaces,
 }
 
 impl CellStore {
+    /// The bytes of a page.
+    pub(crate) fn fetch<H: Shelf>(
+        &self,
+        shelf: &mut H,
+        page: u16,
+        block: &mut [u8; BLOCK],
+    ) -> Result<(), PageFault>
+        requires live { IsTrue (H.seen shelf.old).live }
+        requires stands { StandsFor self.now (H.seen shelf.old) }
+        ensures page { OnOk result (IsPage self.now.set page block.new (H.seen shelf.old)) }
+        ensures below { OnOk result (page < length self.now.spaces.pages.items) }
+        ensures stands { StandsFor self.now (H.seen shelf.new) }
+        ensures room { result ≡ Err PageFault.NoRoom → ⊥ }
+        ensures leaves { OnlyReads 1 (H.steady shelf.old shelf.new) (IsErrOf result PageFault.Failed) (H.seen shelf.old) (H.seen shelf.new) }
+    {
+        if usize::from(page) >= self.spaces.pages.len() {
+            return Err(PageFault::Memory);
+        }
+        match shelf.fetch_page(self.set, page, block) {
+            Ok(()) => Ok(()),
+            Err(_) => Err(PageFault::Failed),
+        }
+    }
+
     /// The tiles of a page, and its bytes.
     pub(crate) fn read_page<H: Shelf>(
         &self,
@@ -31,17 +55,12 @@ impl CellStore {
         requires stands { StandsFor self.now (H.seen shelf.old) }
         ensures tiling { IfOk result (IsTiling self.now.shapes block.new) }
         ensures page { OnOk result (IsPage self.now.set page block.new (H.seen shelf.old)) }
-        ensures below { OnOk result (page < length self.now.spaces.items) }
+        ensures below { OnOk result (page < length self.now.spaces.pages.items) }
         ensures stands { StandsFor self.now (H.seen shelf.new) }
         ensures room { result ≡ Err PageFault.NoRoom → ⊥ }
         ensures leaves { OnlyReads 1 (H.steady shelf.old shelf.new) (IsErrOf result PageFault.Failed) (H.seen shelf.old) (H.seen shelf.new) }
     {
-        if usize::from(page) >= self.spaces.len() {
-            return Err(PageFault::Memory);
-        }
-        let Ok(()) = shelf.fetch_page(self.set, page, block) else {
-            return Err(PageFault::Failed);
-        };
+        self.fetch(shelf, page, block)?;
         match parse_block(self.alloc, self.shapes.as_slice(), block) {
             Ok(tiles) => Ok(tiles),
             Err(_) => Err(PageFault::Memory),

@@ -4,7 +4,7 @@ ghost use Rattle.hal_base.specs.declared.place.Shape.{Shape as ShapeOf};
 ghost use Rattle.segment_blocks.specs.declared.tile.Cell.{Cell as CellOf};
 ghost use Rattle.segment_blocks.specs.declared.tile.Tile.{Tile as TileOf};
 ghost use Rattle.segment_blocks.specs.Tiling.{spelled, IsTiling};
-ghost use Rattle.free_space.specs.Space.{largest_hole, last_hole};
+ghost use Rattle.segment_blocks.specs.Space.{largest_hole, last_hole};
 ghost use Rattle.free_space.specs.Gaps.{IsFirstGap, IsLastGap, tile_offset};
 ghost use Rattle.free_space.specs.Clearing.{IsFront, IsBack};
 

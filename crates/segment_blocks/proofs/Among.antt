@@ -11,21 +11,21 @@ use Rattle.segment_blocks.specs.Tiling.{spelling, AreTilesFrom, is_hole}
 use Rattle.segment_blocks.specs.TilesOf.{cell_among}
 use Rattle.segment_blocks.proofs.Tiles.{tile_whole}
 
-first_or : (at offset : ℕ) (cell : Cell) (rest : Option Cell) → at ≡ offset → cond (eqb at offset) (Some cell) rest ≡ Some cell
+pub first_or : (at offset : ℕ) (cell : Cell) (rest : Option Cell) → at ≡ offset → cond (eqb at offset) (Some cell) rest ≡ Some cell
 first_or at offset cell rest equal =
     elim (eqb_tells at offset) [
       | inl same ↦ ap (λ (b : Bool). cond b (Some cell) rest) same.0
       | inr apart ↦ absurd (apart.1 equal)
     ]
 
-rest_or : (at offset : ℕ) (cell : Cell) (rest : Option Cell) → at < offset → cond (eqb at offset) (Some cell) rest ≡ rest
+pub rest_or : (at offset : ℕ) (cell : Cell) (rest : Option Cell) → at < offset → cond (eqb at offset) (Some cell) rest ≡ rest
 rest_or at offset cell rest below = ap (λ (b : Bool). cond b (Some cell) rest) (ne_eqb at offset (λ same. omega (arith, same, below)))
 
 same_seg : (at offset : ℕ) (one cell : Cell) → Some (Seg at one) ≡ Some (Seg offset cell) → (at ≡ offset) × (one ≡ cell)
 same_seg at offset one cell is = (cc, cc)
 
 -- a cell among tiles begins where these do or behind it
-not_before : (shapes : List Shape) (start : ℕ) (after_hole : Bool) (tiles : List Tile) (place offset : ℕ) (cell : Cell) → AreTilesFrom shapes start after_hole tiles → slice_get tiles place ≡ Some (Seg offset cell) → start ≤ offset
+pub not_before : (shapes : List Shape) (start : ℕ) (after_hole : Bool) (tiles : List Tile) (place offset : ℕ) (cell : Cell) → AreTilesFrom shapes start after_hole tiles → slice_get tiles place ≡ Some (Seg offset cell) → start ≤ offset
 not_before shapes start after_hole [] place offset cell are is = absurd (let wrong : None ≡ Some (Seg offset cell) = is in cc)
 not_before shapes start after_hole (Hole at len ∷ tiles) zero offset cell are is = absurd (let wrong : Some (Hole at len) ≡ Some (Seg offset cell) = is in cc)
 not_before shapes start after_hole (Seg at one ∷ tiles) zero offset cell are is = omega (arith, (same_seg at offset one cell is).0, are.0.0)

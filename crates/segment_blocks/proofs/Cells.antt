@@ -150,7 +150,7 @@ head_takes shape bytes fits room low high =
     (is_mark (get_or bytes 0 0) low high)
     (field16 2 bytes fits (omega arith)) (field32 4 bytes fits (omega arith)) (field16 8 bytes fits (omega arith)) (field16 10 bytes fits (omega arith)) (field32 12 bytes fits (omega arith))
 
-shape_in : (shape : Shape) (bytes : List ℕ) → cell_length shape ≤ length bytes → shape_of (cell_in shape bytes) ≡ shape
+pub shape_in : (shape : Shape) (bytes : List ℕ) → cell_length shape ≤ length bytes → shape_of (cell_in shape bytes) ≡ shape
 shape_in shape bytes room =
     let children : length (addresses_in shape.children (drop 16 bytes)) ≡ shape.children = length-addresses_in shape.children (drop 16 bytes) in
     let content : length (take shape.bytes (drop (16 + 4 * shape.children) bytes)) ≡ shape.bytes =

@@ -8,3 +8,6 @@ pub mod TilesOf
 pub mod Among
 pub mod OneTiling
 pub mod Writing
+pub mod Spaces
+pub mod Stepping
+pub mod Measuring

@@ -1,6 +1,6 @@
 -- A loop that reads one tile after the other.
-use Rattle.std.proofs.Common.{◌≡◌, ℕ, ◌+◌, ◌-◌, ◌%◌, ◌^◌, ◌<◌, ◌≤◌, Bool, false, List, [], ◌∷◌, ◌++◌, length, drop, refl, sym, ap, subst, ◌∙◌, append_assoc, arith}
-use Rattle.std.proofs.lemmas.List.{length-append, length-drop, drop-drop, drop_at, drop_all, append-nil, append_cancel_left}
+use Rattle.std.proofs.Common.{◌≡◌, ℕ, ◌+◌, ◌-◌, ◌%◌, ◌^◌, ◌<◌, ◌≤◌, Bool, false, List, [], ◌∷◌, ◌++◌, length, take, drop, refl, sym, ap, subst, ◌∙◌, append_assoc, arith}
+use Rattle.std.proofs.lemmas.List.{length-append, length-drop, take_rest, drop-drop, drop_at, drop_all, append-nil, append_cancel_left}
 use Rattle.hal_base.specs.declared.place.Shape.{Shape}
 use Rattle.segment_blocks.specs.declared.tile.Tile.{Tile}
 use Rattle.segment_blocks.specs.Tiling.{IsTileAt, AreTiles, LeadsTo, IsTiling, StopsAt, is_hole, spelling, spelled}
@@ -13,6 +13,10 @@ pub record Progress (shapes : List Shape) (block : List ℕ) (tiles : List Tile)
   pub last : after_hole ≡ ends_in_hole false tiles
   pub within : at ≤ length block
   pub fours : at % 4 ≡ 0
+
+-- what is read of a block from an offset on
+pub rest_of : (block : List ℕ) (at : ℕ) → length block ≡ 4096 → take (4096 - at) (drop at block) ≡ drop at block
+rest_of block at whole = ap (λ (n : ℕ). take (n - at) (drop at block)) (sym whole) ∙ take_rest block at
 
 pub starts : (shapes : List Shape) (block : List ℕ) → length block ≡ 4096 → Progress shapes block [] 16 false
 starts shapes block whole = record { leads = record { tiled = tt; front = refl; ends = refl }; last = refl; within = omega arith; fours = refl }

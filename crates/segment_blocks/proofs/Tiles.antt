@@ -7,7 +7,9 @@ use Rattle.segment_blocks.specs.declared.tile.Cell.{Cell}
 use Rattle.segment_blocks.specs.declared.tile.Tile.{Tile}
 use Rattle.segment_blocks.specs.declared.tile.Tile.TheVariants.{Hole, Seg}
 use Rattle.segment_blocks.specs.Tiling.{IsHole, IsCell, IsTileAt, shape_of, cell_length, spelled_hole, spelled_cell, spelling}
-use Rattle.segment_blocks.specs.Reading.{number16, BeginsWithHole, BeginsWithCell, BeginsWith, cell_in}
+use Rattle.segment_blocks.specs.declared.head.Head.{Head}
+use Rattle.segment_blocks.specs.declared.head.Head.TheVariants.{Hole as AHole, Seg as ASeg}
+use Rattle.segment_blocks.specs.Reading.{number16, BeginsWithHole, BeginsWithCell, BeginsWith, cell_in, HasHead, tile_of}
 use Rattle.segment_blocks.proofs.Addresses.{IsBytes}
 use Rattle.segment_blocks.proofs.Holes.{length-spelled_hole, hole_takes, IsReadAsHole, hole_again}
 use Rattle.segment_blocks.proofs.Cells.{length-spelled_cell, cell_again, code_again, mark_again, IsReadAsCell, cell_takes, cell_begins}
@@ -29,6 +31,10 @@ cell_found shapes start after_hole bytes shape cell fits begins read =
     let front : bytes ≡ spelled_cell made ++ drop (length (spelled_cell made)) bytes = taken.parts ∙ ap (λ (k : ℕ). spelled_cell made ++ drop k bytes) (sym (length-spelled_cell made)) in
     let found : BeginsWith shapes start after_hole bytes (Seg start made) = record { placed = (refl, taken.typed); front = front } in
     subst (λ (c : Cell). BeginsWith shapes start after_hole bytes (Seg start c)) (sym read) found
+
+pub head_begins : (shapes : List Shape) (start : ℕ) (after_hole : Bool) (bytes : List ℕ) (head : Head) → IsBytes bytes → HasHead shapes after_hole bytes head → BeginsWith shapes start after_hole bytes (tile_of head start bytes)
+head_begins shapes start after_hole bytes AHole fits has = hole_found shapes start after_hole bytes (number16 2 bytes) fits has.0 has.1 refl
+head_begins shapes start after_hole bytes (ASeg shape) fits has = cell_found shapes start after_hole bytes shape (cell_in shape bytes) fits has refl
 
 pub no_tile : (shapes : List Shape) (start : ℕ) (after_hole : Bool) (bytes : List ℕ) → length bytes < 2 ^ 16 → (after_hole ≡ false → BeginsWithHole bytes → ⊥) → ((shape : Shape) → BeginsWithCell shapes bytes shape → ⊥)
     → (tile : Tile) → BeginsWith shapes start after_hole bytes tile → ⊥

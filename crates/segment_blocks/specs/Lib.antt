@@ -2,3 +2,4 @@ pub mod Tiling
 pub mod Reading
 pub mod TilesOf
 pub mod OneProof
+pub mod Space

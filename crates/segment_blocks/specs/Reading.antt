@@ -1,9 +1,12 @@
 -- What the reader of a block finds at the front of bytes. No public clause speaks of these words.
-use Rattle.std.specs.Prelude.{◌≡◌, ℕ, zero, suc, ◌+◌, ◌-◌, ◌*◌, ◌≤◌, ◌==◌, Bool, List, [], ◌∷◌, ◌++◌, length, take, drop, replicate, slice_get, slice_index, slice_range, Some}
+use Rattle.std.specs.Prelude.{◌≡◌, ℕ, zero, suc, ◌+◌, ◌-◌, ◌*◌, ◌≤◌, ◌==◌, Bool, false, List, [], ◌∷◌, ◌++◌, length, take, drop, replicate, slice_get, slice_index, slice_range, Some}
 use Rattle.std.specs.Int.{w16, w32, from_be_bytes}
 use Rattle.hal_base.specs.declared.place.Shape.{Shape}
 use Rattle.segment_blocks.specs.declared.tile.Cell.{Cell}
 use Rattle.segment_blocks.specs.declared.tile.Tile.{Tile}
+use Rattle.segment_blocks.specs.declared.tile.Tile.TheVariants.{Hole, Seg}
+use Rattle.segment_blocks.specs.declared.head.Head.{Head}
+use Rattle.segment_blocks.specs.declared.head.Head.TheVariants.{Hole as AHole, Seg as ASeg}
 use Rattle.segment_blocks.specs.Tiling.{IsHole, IsTileAt, used_of, cell_length, spelling}
 
 abbrev pub number16 : ℕ → List ℕ → ℕ
@@ -55,3 +58,13 @@ cell_in shape bytes = record {
 pub record BeginsWith (shapes : List Shape) (start : ℕ) (after_hole : Bool) (bytes : List ℕ) (tile : Tile) : Type 0 where
   pub placed : IsTileAt shapes start after_hole tile
   pub front : bytes ≡ spelling tile ++ drop (length (spelling tile)) bytes
+
+-- a tile of this kind begins the bytes
+abbrev pub HasHead : List Shape → Bool → List ℕ → Head → Type 0
+HasHead shapes after_hole bytes AHole = (after_hole ≡ false) × BeginsWithHole bytes
+HasHead shapes after_hole bytes (ASeg shape) = BeginsWithCell shapes bytes shape
+
+-- which it is
+abbrev pub tile_of : Head → ℕ → List ℕ → Tile
+tile_of AHole at bytes = Hole at (number16 2 bytes)
+tile_of (ASeg shape) at bytes = Seg at (cell_in shape bytes)

@@ -15,20 +15,29 @@
 //!
 //! - `tile.rt`: `Tile`, `Cell`, and why a block has no tiles;
 //! - `size.rt`: how long a cell of a shape is;
-//! - `parse.rt`: the tiles of a block;
+//! - `head.rt`, `parse.rt`: what begins at an offset, and the tiles of a block;
+//! - `one.rt`: one cell, read at its offset;
+//! - `space.rt`, `measure.rt`: how much room a block has, and where;
 //! - `write.rt`: a cell or a hole written into a block;
 //! - `laws.rt`: tiles are a function of the bytes, and cells one of the offset.
 #![tactic(auto)]
 
+mod head;
 mod laws;
+mod measure;
+mod one;
 mod parse;
 mod size;
+mod space;
 mod tile;
 mod write;
 
 pub use laws::{cells_by_offset, one_tiling, others_stand_around};
+pub use measure::measure_block;
+pub use one::{find_at, read_at};
 pub use parse::parse_block;
 pub use size::cell_size;
+pub use space::Space;
 pub use tile::{BlockFault, Cell, Tile};
 pub use write::{write_cell, write_hole};
 

@@ -1,59 +1,12 @@
-ghost use Rattle.std.specs.Prelude.{◌≡◌, ◌≤◌, ◌<◌, ◌+◌, ◌*◌, ◌↔◌, ℕ, List as ListOf, length, IsTrue, IfOk, IfSome, IfNone, MatchResult};
-ghost use Rattle.hal_base.specs.declared.place.Shape.{Shape as ShapeOf};
+ghost use Rattle.std.specs.Prelude.{◌≡◌, ◌≤◌, ◌*◌, ℕ, List as ListOf, length, IfOk, MatchResult};
 ghost use Rattle.segment_blocks.specs.declared.tile.Tile.{Tile as TileOf};
 ghost use Rattle.segment_blocks.specs.Tiling.{cell_length, is_hole, IsTiling, StopsAt};
-ghost use Rattle.segment_blocks.specs.Reading.{HasZeros, BeginsWithHole, HasShape, BeginsWithCell, addresses_in, cell_in, BeginsWith};
+ghost use Rattle.segment_blocks.specs.Reading.{addresses_in, cell_in, BeginsWith};
 
-use crate::size::{length_of, used_by};
+use crate::head::{Head, next_head};
 use crate::{BlockFault, Cell, Tile};
 use hal_base::{Bytes, Ilk, List, Memory, Shape, get16, get32};
 use std::alloc::Global;
-
-fn has_zeros(bytes: &[u8], start: usize, end: usize) -> bool
-    requires { start ≤ end }
-    ensures { IsTrue result ↔ HasZeros bytes.now start end }
-{
-    end <= bytes.len() && bytes[start..end].iter().all(|byte| *byte == 0)
-}
-
-/// A hole stands at the front of the bytes.
-fn begins_with_hole(bytes: &[u8]) -> bool
-    requires { 4 ≤ length bytes.now }
-    ensures { IsTrue result ↔ BeginsWithHole bytes.now }
-{
-    let len = get16(bytes, 2);
-    bytes[0] == 0
-        && bytes[1] == 0
-        && len >= 4
-        && len % 4 == 0
-        && has_zeros(bytes, 4, usize::from(len))
-}
-
-/// The bytes have the length of a cell of this shape, and its padding.
-fn has_shape(shape: Shape, bytes: &[u8]) -> bool
-    requires { 4 ≤ length bytes.now }
-    ensures { IsTrue result ↔ HasShape shape bytes.now }
-{
-    let end = length_of(shape);
-    usize::from(get16(bytes, 2)) == end && has_zeros(bytes, used_by(shape), end)
-}
-
-/// The shape of the cell at the front of the bytes.
-fn begun_shape(shapes: &[Shape], bytes: &[u8]) -> Option<Shape>
-    requires { 4 ≤ length bytes.now }
-    ensures found { IfSome result (λ shape. BeginsWithCell shapes.now bytes.now shape) }
-    ensures none { IfNone result ((shape : ShapeOf) → BeginsWithCell shapes.now bytes.now shape → ⊥) }
-{
-    if !matches!(bytes[0], 1 | 2) || bytes[1] == 0 {
-        return None;
-    }
-    let shape = *shapes.get(usize::from(bytes[1]) - 1)?;
-    if has_shape(shape, bytes) {
-        Some(shape)
-    } else {
-        None
-    }
-}
 
 fn read_addresses(alloc: Global, count: u8, bytes: &[u8]) -> Result<List<u32>, Memory>
     requires { 4 * count ≤ length bytes.now }
@@ -66,7 +19,7 @@ fn read_addresses(alloc: Global, count: u8, bytes: &[u8]) -> Result<List<u32>, M
     Ok(addresses)
 }
 
-fn read_cell(alloc: Global, shape: Shape, bytes: &[u8]) -> Result<Cell, Memory>
+pub(crate) fn read_cell(alloc: Global, shape: Shape, bytes: &[u8]) -> Result<Cell, Memory>
     requires { cell_length shape ≤ length bytes.now }
     ensures { IfOk result (λ cell. cell ≡ cell_in shape bytes.now) }
 {
@@ -100,13 +53,13 @@ fn next_tile(
     ensures none { (offset : ℕ) → result ≡ Err (BlockFault.BadTile offset) →
         (tile : TileOf) → BeginsWith shapes.now at after_hole bytes.now tile → ⊥ }
 {
-    if !after_hole && begins_with_hole(bytes) {
-        let len = get16(bytes, 2);
-        return Ok(Tile::Hole { at, len });
-    }
-    match begun_shape(shapes, bytes) {
+    match next_head(shapes, bytes, after_hole) {
         None => Err(BlockFault::BadTile { offset: at }),
-        Some(shape) => {
+        Some(Head::Hole) => {
+            let len = get16(bytes, 2);
+            Ok(Tile::Hole { at, len })
+        }
+        Some(Head::Seg(shape)) => {
             let cell = read_cell(alloc, shape, bytes)?;
             Ok(Tile::Seg { at, cell })
         }

@@ -2,7 +2,7 @@ use Rattle.std.proofs.Common.{◌≡◌, ℕ, ◌-◌, ◌≤◌, List, [], ◌�
 use Rattle.segment_blocks.specs.declared.tile.Tile.{Tile}
 use Rattle.segment_blocks.specs.declared.tile.Tile.TheVariants.{Hole}
 use Rattle.segment_blocks.specs.Tiling.{spelling}
-use Rattle.free_space.specs.Space.{space_of}
+use Rattle.segment_blocks.specs.Space.{space_of}
 use Rattle.free_space.proofs.Filling.{head_kept}
 use Rattle.free_space.proofs.Clearings.{parts_of, fewer, run_sizes, cleared_tiles, emptied}
 use Rattle.free_space.proofs.page.clear.Goals as goal

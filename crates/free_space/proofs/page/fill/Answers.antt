@@ -1,7 +1,7 @@
 use Rattle.std.proofs.Common.{◌≡◌, ◌+◌, ◌-◌, ◌≤◌, ℕ, [], ◌∷◌, ◌++◌, sym, ap, subst, ◌∙◌, arith}
 use Rattle.segment_blocks.specs.declared.tile.Tile.TheVariants.{Hole, Seg}
 use Rattle.segment_blocks.specs.Tiling.{cell_length, shape_of, spelling, IsCell, IsTiling, StandAround}
-use Rattle.free_space.specs.Gaps.{left_over}
+use Rattle.segment_blocks.specs.Space.{left_over}
 use Rattle.free_space.proofs.Filling.{head_kept, shape_is, is_cell, around_hole, fill_whole, fill_part}
 use Rattle.free_space.proofs.page.fill.Goals as goal
 

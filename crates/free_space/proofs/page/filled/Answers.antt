@@ -1,7 +1,7 @@
 use Rattle.std.proofs.Common.{◌+◌, ◌-◌, [], ◌∷◌, ◌++◌, take, ap, ◌∙◌}
 use Rattle.segment_blocks.specs.declared.tile.Tile.TheVariants.{Seg}
-use Rattle.free_space.specs.Space.{space_of}
-use Rattle.free_space.specs.Gaps.{left_over}
+use Rattle.segment_blocks.specs.Space.{space_of}
+use Rattle.segment_blocks.specs.Space.{left_over}
 use Rattle.free_space.proofs.Filling.{regroup}
 use Rattle.free_space.proofs.page.filled.Goals as goal
 

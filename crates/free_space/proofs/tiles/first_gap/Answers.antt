@@ -1,6 +1,6 @@
 use Rattle.std.proofs.Common.{ap, arith}
-use Rattle.free_space.specs.Space.{hole_length}
-use Rattle.free_space.proofs.Spaces.{largest_more}
+use Rattle.segment_blocks.specs.Space.{hole_length}
+use Rattle.segment_blocks.proofs.Spaces.{largest_more}
 use Rattle.free_space.proofs.tiles.first_gap.Goals as goal
 use Rattle.free_space.proofs.tiles.first_gap.Goals.{in-Hole+else-room-len, in_default}
 

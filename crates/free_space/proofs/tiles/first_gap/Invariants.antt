@@ -1,5 +1,5 @@
 use Rattle.std.proofs.Common.{◌<◌, take}
-use Rattle.free_space.specs.Space.{largest_hole}
+use Rattle.segment_blocks.specs.Space.{largest_hole}
 use Rattle.free_space.proofs.tiles.first_gap.Given as goal
 
 abbrev pub invariant-loop-place : goal.invariant-loop-place

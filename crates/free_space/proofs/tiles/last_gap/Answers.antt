@@ -1,6 +1,6 @@
 use Rattle.std.proofs.Common.{◌≡◌, ◌+◌, length, ap, arith}
-use Rattle.free_space.specs.Space.{hole_length}
-use Rattle.free_space.proofs.Spaces.{last_is}
+use Rattle.segment_blocks.specs.Space.{hole_length}
+use Rattle.segment_blocks.proofs.Spaces.{last_is}
 use Rattle.free_space.proofs.tiles.last_gap.Goals as goal
 
 pub returns-in_default-clause-none : goal.returns-in_default-clause-none

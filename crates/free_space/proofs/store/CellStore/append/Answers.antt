@@ -4,7 +4,7 @@ use Rattle.std.proofs.lemmas.Result.{err_from_is_err_and}
 use Rattle.hal_base.specs.declared.outcome.PageFault.TheVariants.{NoRoom, Failed}
 use Rattle.hal_base.proofs.ShelfLemmas.{changed_grown, keeps_then, keeps_as}
 use Rattle.segment_blocks.specs.Tiling.{cell_length}
-use Rattle.free_space.specs.declared.space.Space.{Space}
+use Rattle.segment_blocks.specs.declared.space.Space.{Space}
 use Rattle.free_space.specs.Placing.{opened_pages, Appends, IsLastOpen, HasRoom}
 use Rattle.free_space.specs.Store.{Relays}
 use Rattle.free_space.proofs.Told.{handed_on, handed_to, if_some, added_is, stays_then}
@@ -45,7 +45,7 @@ returns-in_err-page-in-None-clause-no_room g c = λ is.
     let failed = handed_on c.open_page.result c.from_residual.result p.0 c.in_err-page-in-None.field-0.0 NoRoom p.1 p.2 c.in_err-page-in-None.was is in
     let none = subst (λ (l : List Space). NoRoomIn l c.args.fbff c.args.fspf c.cell_size-len.result) c.deref.ensures.value c.in-None.ensures.none in (
       subst (λ (m : ℕ). length (g.H.Shelf.seen c.args.shelf.now).free < opened_pages c.args.fbff m) c.requires.stands.many (c.open_page.ensures.no_room failed),
-      (λ pages told. no_place c.args.self.now.shapes c.args.self.now.spaces.items pages c.args.fbff c.args.fspf c.cell_size-len.result _ (c.cell_size-len.ensures ∙ ap cell_length c.shape_for.ensures)
+      (λ pages told. no_place c.args.self.now.shapes c.args.self.now.spaces.pages.items pages c.args.fbff c.args.fspf c.cell_size-len.result _ (c.cell_size-len.ensures ∙ ap cell_length c.shape_for.ensures)
           (if_some (λ all. (length all ≡ length ((g.H.Shelf.seen c.args.shelf.now).places c.args.self.now.set)) × All (λ page. length page ≡ 4096) all) ((g.H.Shelf.seen c.args.shelf.now).pages c.args.self.now.set) pages
           (g.met.H.Shelf.pages_are c.args.shelf.now c.args.self.now.set) told).1 (c.requires.stands.told pages told) none),
     )
@@ -68,7 +68,7 @@ returns-in_ok-page-in-None-clause-appended g c =
     let old = g.H.Shelf.seen c.args.shelf.now in
     let mid = g.H.Shelf.seen c.open_page.new.shelf in
     let new = g.H.Shelf.seen c.append_in-in-None.new.shelf in
-    let count = opened_pages c.args.fbff (length c.args.self.now.spaces.items) in
+    let count = opened_pages c.args.fbff (length c.args.self.now.spaces.pages.items) in
     let none = subst (λ (l : List Space). NoRoomIn l c.args.fbff c.args.fspf c.cell_size-len.result) c.deref.ensures.value c.in-None.ensures.none in
     let grown = grown_changed count c.args.self.now.set c.open_page.new.self.set old mid new e.stays.set e.grown.blocks c.append_in-in-None.ensures.leaves.changed in
     let are = added_is count c.args.self.now.set old new grown in
@@ -86,7 +86,7 @@ returns-in_ok-page-in-None-clause-no_room g c = λ is. absurd (c.append_in-in-No
 pub returns-in_ok-page-in-None-clause-few : goal.returns-in_ok-page-in-None-clause-few
 returns-in_ok-page-in-None-clause-few g c =
     let e = c.in_ok-page-in-None.ensures in
-    let count = opened_pages c.args.fbff (length c.args.self.now.spaces.items) in
+    let count = opened_pages c.args.fbff (length c.args.self.now.spaces.pages.items) in
     omega (
       arith,
       ap (opened_pages c.args.fbff) c.requires.stands.many,
@@ -97,7 +97,7 @@ returns-in_ok-page-in-None-clause-few g c =
 pub returns-in_ok-page-in-None-clause-opened : goal.returns-in_ok-page-in-None-clause-opened
 returns-in_ok-page-in-None-clause-opened g c =
     let e = c.in_ok-page-in-None.ensures in
-    let count = opened_pages c.args.fbff (length c.args.self.now.spaces.items) in
+    let count = opened_pages c.args.fbff (length c.args.self.now.spaces.pages.items) in
     on_ok_any c.append_in-in-None.result (λ some. sym (added_is count c.args.self.now.set (g.H.Shelf.seen c.args.shelf.now) (g.H.Shelf.seen c.append_in-in-None.new.shelf)
     (grown_changed count c.args.self.now.set c.open_page.new.self.set (g.H.Shelf.seen c.args.shelf.now) (g.H.Shelf.seen c.open_page.new.shelf) (g.H.Shelf.seen c.append_in-in-None.new.shelf) e.stays.set e.grown.blocks c.append_in-in-None.ensures.leaves.changed))
     ∙ ap (opened_pages c.args.fbff) c.requires.stands.many)
@@ -109,7 +109,7 @@ returns-in_ok-page-in-None-clause-stays g c =
 pub returns-in_ok-page-in-None-clause-leaves : goal.returns-in_ok-page-in-None-clause-leaves
 returns-in_ok-page-in-None-clause-leaves g c =
     let e = c.in_ok-page-in-None.ensures in
-    let count = opened_pages c.args.fbff (length c.args.self.now.spaces.items) in
+    let count = opened_pages c.args.fbff (length c.args.self.now.spaces.pages.items) in
     grows_only count c.args.self.now.set (g.H.Shelf.seen c.args.shelf.now) (g.H.Shelf.seen c.append_in-in-None.new.shelf)
     (keeps_then c.open_page.ensures.keeps c.append_in-in-None.ensures.leaves.keeps (g.met.H.Shelf.steady_then c.args.shelf.now c.open_page.new.shelf c.append_in-in-None.new.shelf))
     (grown_changed count c.args.self.now.set c.open_page.new.self.set (g.H.Shelf.seen c.args.shelf.now) (g.H.Shelf.seen c.open_page.new.shelf) (g.H.Shelf.seen c.append_in-in-None.new.shelf) e.stays.set e.grown.blocks c.append_in-in-None.ensures.leaves.changed)

@@ -6,9 +6,9 @@ use Rattle.hal_base.proofs.ShelfLemmas.{same_none, changes_as}
 use Rattle.segment_blocks.specs.declared.tile.Tile.{Tile}
 use Rattle.segment_blocks.specs.declared.tile.Tile.TheVariants.{Hole, Seg}
 use Rattle.segment_blocks.specs.Tiling.{cell_length, shape_of, IsTiling}
-use Rattle.free_space.specs.declared.space.Space.{Space}
-use Rattle.free_space.specs.Space.{space_of}
-use Rattle.free_space.specs.Gaps.{left_over}
+use Rattle.segment_blocks.specs.declared.space.Space.{Space}
+use Rattle.segment_blocks.specs.Space.{space_of}
+use Rattle.segment_blocks.specs.Space.{left_over}
 use Rattle.free_space.proofs.Runs.{split_place}
 use Rattle.free_space.proofs.Rewriting.{hole_inside}
 use Rattle.free_space.proofs.Told.{ok_err, stays_same}
@@ -77,7 +77,7 @@ returns-clause-stays g c =
     let numbers : c.filled-space.result ≡ space_of next =
     subst (λ (n : ℕ). c.filled-space.result ≡ space_of (before ++ (Seg c.args.gap.at c.args.cell.now ∷ left_over (c.args.gap.at + n) (c.args.gap.room - n) ++ after))) c.cell_size.ensures (c.filled-space.ensures c.args.cell.now) in
     stays_put c.args.self.now _ (g.H.Shelf.seen c.args.shelf.now) (g.H.Shelf.seen c.args.shelf.now) (g.H.Shelf.seen c.stage.new.shelf) c.args.page c.fill.new.block next c.requires.stands (same_none (g.H.Shelf.seen c.args.shelf.now)) refl refl
-    (ap (λ (s : Space). slice_set c.args.self.now.spaces.items c.from.result s) numbers ∙ ap (λ (n : ℕ). slice_set c.args.self.now.spaces.items n (space_of next)) c.from.ensures) t c.in_ok-stage.ensures.page c.in_ok-stage.ensures.leaves.changed
+    (c.set.ensures ∙ ap (λ (s : Space). slice_set c.args.self.now.spaces.pages.items c.from.result s) numbers ∙ ap (λ (n : ℕ). slice_set c.args.self.now.spaces.pages.items n (space_of next)) c.from.ensures) t c.in_ok-stage.ensures.page c.in_ok-stage.ensures.leaves.changed
 
 pub returns-in_err-stage-clause-stays : goal.returns-in_err-stage-clause-stays
 returns-in_err-stage-clause-stays g c = stays_same c.args.self.now (g.H.Shelf.seen c.args.shelf.now) (g.H.Shelf.seen c.stage.new.shelf) c.requires.stands c.in_err-stage.ensures.unchanged

@@ -3,8 +3,8 @@ use Rattle.std.specs.Prelude.{slice_set}
 use Rattle.hal_base.proofs.ShelfLemmas.{same_then, reads_changes, changes_then, changes_as}
 use Rattle.segment_blocks.specs.declared.tile.Tile.{Tile}
 use Rattle.segment_blocks.specs.Tiling.{IsTiling}
-use Rattle.free_space.specs.declared.space.Space.{Space}
-use Rattle.free_space.specs.Space.{space_of}
+use Rattle.segment_blocks.specs.declared.space.Space.{Space}
+use Rattle.segment_blocks.specs.Space.{space_of}
 use Rattle.free_space.specs.Clearing.{IsCleared}
 use Rattle.free_space.proofs.Told.{ok_err, stays_same}
 use Rattle.free_space.proofs.PageSteps.{given_back, stays_put, same_front}
@@ -32,7 +32,7 @@ returns-clause-stays g c =
     let done = c.clear-space.ensures.cleared c.args.self.now.shapes c.offset_of.result c.in-Some.field-0-1.now tiling c.in-Some.ensures.found in
     stays_put c.args.self.now _ (g.H.Shelf.seen c.args.shelf.now) (g.H.Shelf.seen c.read_page.new.shelf) (g.H.Shelf.seen c.stage.new.shelf) c.page_of-page.result c.clear-space.new.block done.0
     c.requires.stands c.read_page.ensures.leaves.same refl refl
-    (ap (λ (s : Space). slice_set c.args.self.now.spaces.items c.from.result s) done.3 ∙ ap (λ (n : _). slice_set c.args.self.now.spaces.items n (space_of done.0)) c.from.ensures) done.2 c.in_ok-stage.ensures.page c.in_ok-stage.ensures.leaves.changed
+    (c.set.ensures ∙ ap (λ (s : Space). slice_set c.args.self.now.spaces.pages.items c.from.result s) done.3 ∙ ap (λ (n : _). slice_set c.args.self.now.spaces.pages.items n (space_of done.0)) c.from.ensures) done.2 c.in_ok-stage.ensures.page c.in_ok-stage.ensures.leaves.changed
 
 pub returns-in_err-stage-clause-stays : goal.returns-in_err-stage-clause-stays
 returns-in_err-stage-clause-stays g c = stays_same c.args.self.now (g.H.Shelf.seen c.args.shelf.now) (g.H.Shelf.seen c.stage.new.shelf) c.requires.stands (same_then c.read_page.ensures.leaves.same c.in_err-stage.ensures.unchanged)

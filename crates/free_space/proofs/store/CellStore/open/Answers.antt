@@ -19,5 +19,5 @@ returns-clause-opened g c =
     let same = c.read_spaces.ensures.leaves.same in
     record {
       many = c.in_ok-spaces.ensures.many ∙ ap length (sym (same.places c.args.set));
-      told = λ pages told. subst (λ (s : List Shape). Knows s c.in_ok-spaces.spaces.items pages) c.as_slice.ensures (c.in_ok-spaces.ensures.layout pages (sym (same.pages c.args.set) ∙ told));
+      told = λ pages told. subst (λ (s : List Shape). Knows s c.in_ok-spaces.spaces.pages.items pages) c.as_slice.ensures (c.in_ok-spaces.ensures.layout pages (sym (same.pages c.args.set) ∙ told));
     }

@@ -10,13 +10,13 @@ use Rattle.free_space.proofs.store.CellStore.open_page.Goals as goal
 
 pub returns-then-not-is_due-clause-number : goal.returns-then-not-is_due-clause-number
 returns-then-not-is_due-clause-number g c =
-    let n : ℕ = length c.args.self.now.spaces.items in
+    let n : ℕ = length c.args.self.now.spaces.pages.items in
     let one = opened_is_one c.args.fbff n c.is_due.result (c.is_due.ensures ∙ ap (is_due c.args.fbff) (search rules)) c.if-not-is_due.true in
     IfOk-weaker c.add_page.result (λ k. k ≡ n) (λ k. k + 1 ≡ n + opened_pages c.args.fbff n) (λ k is. omega (arith, is, one)) c.add_page.ensures.number
 
 pub returns-then-not-is_due-clause-grown : goal.returns-then-not-is_due-clause-grown
 returns-then-not-is_due-clause-grown g c =
-    let n : ℕ = length c.args.self.now.spaces.items in
+    let n : ℕ = length c.args.self.now.spaces.pages.items in
     let one = opened_is_one c.args.fbff n c.is_due.result (c.is_due.ensures ∙ ap (is_due c.args.fbff) (search rules)) c.if-not-is_due.true in
     match_weaker c.add_page.result c.add_page.ensures.grown
     (λ k grew. subst (λ (m : ℕ). GrewBy m c.args.self.now (g.H.Shelf.seen c.args.shelf.now) (g.H.Shelf.seen c.add_page.new.shelf)) (sym one) grew)
@@ -24,7 +24,7 @@ returns-then-not-is_due-clause-grown g c =
 
 pub returns-then-not-is_due-clause-few : goal.returns-then-not-is_due-clause-few
 returns-then-not-is_due-clause-few g c =
-    let n : ℕ = length c.args.self.now.spaces.items in
+    let n : ℕ = length c.args.self.now.spaces.pages.items in
     let one = opened_is_one c.args.fbff n c.is_due.result (c.is_due.ensures ∙ ap (is_due c.args.fbff) (search rules)) c.if-not-is_due.true in
     match_any c.add_page.result c.add_page.ensures.grown
     (λ k grew. omega (arith, one, added_is 1 c.args.self.now.set (g.H.Shelf.seen c.args.shelf.now) (g.H.Shelf.seen c.add_page.new.shelf) grew.blocks))
@@ -32,7 +32,7 @@ returns-then-not-is_due-clause-few g c =
 
 pub returns-then-not-is_due-clause-no_room : goal.returns-then-not-is_due-clause-no_room
 returns-then-not-is_due-clause-no_room g c = λ is.
-    let one = opened_is_one c.args.fbff (length c.args.self.now.spaces.items) c.is_due.result (c.is_due.ensures ∙ ap (is_due c.args.fbff) (search rules)) c.if-not-is_due.true in
+    let one = opened_is_one c.args.fbff (length c.args.self.now.spaces.pages.items) c.is_due.result (c.is_due.ensures ∙ ap (is_due c.args.fbff) (search rules)) c.if-not-is_due.true in
     omega (arith, one, ap length (c.add_page.ensures.no_room is))
 
 pub returns-in_err-_due-clause-grown : goal.returns-in_err-_due-clause-grown
@@ -42,28 +42,28 @@ returns-in_err-_due-clause-grown g c =
 
 pub returns-in_err-_due-clause-few : goal.returns-in_err-_due-clause-few
 returns-in_err-_due-clause-few g c =
-    let two = opened_is_two c.args.fbff (length c.args.self.now.spaces.items) c.is_due.result (c.is_due.ensures ∙ ap (is_due c.args.fbff) (search rules)) c.if-not-is_due.false in
+    let two = opened_is_two c.args.fbff (length c.args.self.now.spaces.pages.items) c.is_due.result (c.is_due.ensures ∙ ap (is_due c.args.fbff) (search rules)) c.if-not-is_due.false in
     omega (arith, two, none_added c.args.self.now.set (g.H.Shelf.seen c.args.shelf.now) (g.H.Shelf.seen c.add_page-2.new.shelf) (same_changed c.args.self.now.set c.in_err-_due.ensures.grown))
 
 pub returns-in_err-_due-clause-no_room : goal.returns-in_err-_due-clause-no_room
 returns-in_err-_due-clause-no_room g c = λ is.
     let p = err_from_is_err_and c.from_residual.result c.from_residual.ensures.1 in
-    let two = opened_is_two c.args.fbff (length c.args.self.now.spaces.items) c.is_due.result (c.is_due.ensures ∙ ap (is_due c.args.fbff) (search rules)) c.if-not-is_due.false in
+    let two = opened_is_two c.args.fbff (length c.args.self.now.spaces.pages.items) c.is_due.result (c.is_due.ensures ∙ ap (is_due c.args.fbff) (search rules)) c.if-not-is_due.false in
     let failed = handed_on c.add_page-2.result c.from_residual.result p.0 c.in_err-_due.field-0.0 NoRoom p.1 p.2 c.in_err-_due.was is in
     omega (arith, two, ap length (c.add_page-2.ensures.no_room failed))
 
 pub returns-clause-number : goal.returns-clause-number
 returns-clause-number g c =
-    let n : ℕ = length c.args.self.now.spaces.items in
+    let n : ℕ = length c.args.self.now.spaces.pages.items in
     let e = c.in_ok-_due.ensures in
     let two = opened_is_two c.args.fbff n c.is_due.result (c.is_due.ensures ∙ ap (is_due c.args.fbff) (search rules)) c.if-not-is_due.false in
     let more = grew_many 1 c.args.self.now c.add_page-2.new.self (g.H.Shelf.seen c.args.shelf.now) (g.H.Shelf.seen c.add_page-2.new.shelf) c.requires.stands e.stays e.grown.blocks in
-    IfOk-weaker c.add_page-3.result (λ k. k ≡ length c.add_page-2.new.self.spaces.items) (λ k. k + 1 ≡ n + opened_pages c.args.fbff n) (λ k is. omega (arith, is, two, more)) c.add_page-3.ensures.number
+    IfOk-weaker c.add_page-3.result (λ k. k ≡ length c.add_page-2.new.self.spaces.pages.items) (λ k. k + 1 ≡ n + opened_pages c.args.fbff n) (λ k is. omega (arith, is, two, more)) c.add_page-3.ensures.number
 
 pub returns-clause-grown : goal.returns-clause-grown
 returns-clause-grown g c =
     let e = c.in_ok-_due.ensures in
-    let two = opened_is_two c.args.fbff (length c.args.self.now.spaces.items) c.is_due.result (c.is_due.ensures ∙ ap (is_due c.args.fbff) (search rules)) c.if-not-is_due.false in
+    let two = opened_is_two c.args.fbff (length c.args.self.now.spaces.pages.items) c.is_due.result (c.is_due.ensures ∙ ap (is_due c.args.fbff) (search rules)) c.if-not-is_due.false in
     match_weaker c.add_page-3.result c.add_page-3.ensures.grown
     (λ k grew. subst (λ (m : ℕ). GrewBy m c.args.self.now (g.H.Shelf.seen c.args.shelf.now) (g.H.Shelf.seen c.add_page-3.new.shelf)) (sym two)
     (grew_two c.args.self.now c.add_page-2.new.self (g.H.Shelf.seen c.args.shelf.now) (g.H.Shelf.seen c.add_page-2.new.shelf) (g.H.Shelf.seen c.add_page-3.new.shelf) e.stays e.grown grew))
@@ -73,7 +73,7 @@ returns-clause-grown g c =
 pub returns-clause-few : goal.returns-clause-few
 returns-clause-few g c =
     let e = c.in_ok-_due.ensures in
-    let two = opened_is_two c.args.fbff (length c.args.self.now.spaces.items) c.is_due.result (c.is_due.ensures ∙ ap (is_due c.args.fbff) (search rules)) c.if-not-is_due.false in
+    let two = opened_is_two c.args.fbff (length c.args.self.now.spaces.pages.items) c.is_due.result (c.is_due.ensures ∙ ap (is_due c.args.fbff) (search rules)) c.if-not-is_due.false in
     match_any c.add_page-3.result c.add_page-3.ensures.grown
     (λ k grew. omega (
       arith,
@@ -90,7 +90,7 @@ returns-clause-few g c =
 
 pub returns-clause-no_room : goal.returns-clause-no_room
 returns-clause-no_room g c = λ is.
-    let two = opened_is_two c.args.fbff (length c.args.self.now.spaces.items) c.is_due.result (c.is_due.ensures ∙ ap (is_due c.args.fbff) (search rules)) c.if-not-is_due.false in
+    let two = opened_is_two c.args.fbff (length c.args.self.now.spaces.pages.items) c.is_due.result (c.is_due.ensures ∙ ap (is_due c.args.fbff) (search rules)) c.if-not-is_due.false in
     omega (arith, two, one_left 1 c.args.self.now.set (g.H.Shelf.seen c.args.shelf.now) (g.H.Shelf.seen c.add_page-2.new.shelf) c.in_ok-_due.ensures.grown.blocks (c.add_page-3.ensures.no_room is))
 
 pub returns-clause-stays : goal.returns-clause-stays

@@ -1,20 +1,18 @@
-use Rattle.std.proofs.Common.{List, sym, ap, subst, ◌∙◌, arith}
+use Rattle.std.proofs.Common.{sym, ap, ◌∙◌, arith}
 use Rattle.std.proofs.lemmas.Result.{err_from_is_err_and}
 use Rattle.hal_base.specs.declared.outcome.PageFault.TheVariants.{NoRoom, Failed}
 use Rattle.hal_base.proofs.ShelfLemmas.{same_changed, changed_grown, keeps_then, keeps_as}
 use Rattle.segment_blocks.specs.Tiling.{cell_length}
-use Rattle.free_space.specs.declared.space.Space.{Space}
 use Rattle.free_space.specs.Map.{layout_of}
-use Rattle.free_space.specs.Placing.{IsFirstWith}
 use Rattle.free_space.proofs.Told.{handed_on, handed_to, added_is, stays_then}
-use Rattle.free_space.proofs.PlaceSteps.{TooSmall, none_fits, placed_here, placed_behind, match_of, match_err, none_added, grows_only, grew_none, grew_same, grew_as, grown_changed}
+use Rattle.free_space.proofs.PlaceSteps.{none_fits, placed_here, placed_behind, match_of, match_err, none_added, grows_only, grew_none, grew_same, grew_as, grown_changed}
 use Rattle.free_space.proofs.store.CellStore.place.Goals as goal
 
 pub returns-in-Some-clause-placed : goal.returns-in-Some-clause-placed
 returns-in-Some-clause-placed g c =
     let old = g.H.Shelf.seen c.args.shelf.now in
     let new = g.H.Shelf.seen c.place_in.new.shelf in
-    let first = subst (λ (l : List Space). IsFirstWith l c.cell_size-len.result c.in-Some.page) c.deref.ensures.value c.in-Some.ensures.found in
+    let first = c.in-Some.ensures.found in
     match_of c.place_in.result c.place_in.ensures.places_in c.place_in.ensures.unchanged
     (λ at put. placed_here c.args.self.now old new c.args.cell.now at c.in-Some.page c.cell_size-len.result _ (c.cell_size-len.ensures ∙ ap cell_length c.shape_for.ensures)
     (sym (none_added c.args.self.now.set old new c.place_in.ensures.leaves.changed)) c.requires.stands first put)
@@ -38,10 +36,10 @@ pub returns-in_err-page-in-None-clause-no_room : goal.returns-in_err-page-in-Non
 returns-in_err-page-in-None-clause-no_room g c = λ is.
     let p = err_from_is_err_and c.from_residual.result c.from_residual.ensures.1 in
     let failed = handed_on c.add_page.result c.from_residual.result p.0 c.in_err-page-in-None.field-0.0 NoRoom p.1 p.2 c.in_err-page-in-None.was is in
-    let small = subst (λ (l : List Space). TooSmall l c.cell_size-len.result) c.deref.ensures.value c.in-None.ensures.none in (
+    let small = c.in-None.ensures.none in (
       c.add_page.ensures.no_room failed,
       c.in_err-page-in-None.ensures.grown,
-      (λ pages told. none_fits c.args.self.now.spaces.items (layout_of c.args.self.now.shapes pages) c.cell_size-len.result _ (c.cell_size-len.ensures ∙ ap cell_length c.shape_for.ensures) (c.requires.stands.told pages told).spaces_are small),
+      (λ pages told. none_fits c.args.self.now.spaces.pages.items (layout_of c.args.self.now.shapes pages) c.cell_size-len.result _ (c.cell_size-len.ensures ∙ ap cell_length c.shape_for.ensures) (c.requires.stands.told pages told).spaces_are small),
     )
 
 pub returns-in_err-page-in-None-clause-few : goal.returns-in_err-page-in-None-clause-few
@@ -62,7 +60,7 @@ returns-in_ok-page-in-None-clause-placed g c =
     let old = g.H.Shelf.seen c.args.shelf.now in
     let mid = g.H.Shelf.seen c.add_page.new.shelf in
     let new = g.H.Shelf.seen c.place_in-in-None.new.shelf in
-    let small = subst (λ (l : List Space). TooSmall l c.cell_size-len.result) c.deref.ensures.value c.in-None.ensures.none in
+    let small = c.in-None.ensures.none in
     let grown = grown_changed 1 c.args.self.now.set c.add_page.new.self.set old mid new e.stays.set e.grown.blocks c.place_in-in-None.ensures.leaves.changed in
     match_of c.place_in-in-None.result c.place_in-in-None.ensures.places_in c.place_in-in-None.ensures.unchanged
     (λ at put. placed_behind c.args.self.now c.add_page.new.self old mid new c.args.cell.now at c.in_ok-page-in-None.page c.cell_size-len.result _ (c.cell_size-len.ensures ∙ ap cell_length c.shape_for.ensures)

@@ -1,15 +1,16 @@
 ghost use Rattle.std.specs.Prelude.{◌≡◌, ℕ, [], ◌∷◌, ◌++◌, List};
 ghost use Rattle.segment_blocks.specs.declared.tile.Cell.{Cell as CellOf};
 ghost use Rattle.segment_blocks.specs.declared.tile.Tile.{Tile as TileOf};
-ghost use Rattle.free_space.specs.Space.{space_of};
-ghost use Rattle.free_space.specs.Gaps.{left_over};
+ghost use Rattle.segment_blocks.specs.Reading.{number16, tile_of};
+ghost use Rattle.segment_blocks.specs.Space.{space_of, left_over};
 
-use segment_blocks::Tile;
+use crate::Tile;
+use crate::head::Head;
 
-/// What a store keeps in memory of a page: the length of its largest hole, the bytes of all holes, those behind
-/// its last cell, and whether it holds a cell.
+/// What is kept of a block without its tiles: the length of its largest hole, the bytes of all holes, those behind its
+/// last cell, and whether it holds a cell.
 #[derive(Clone, Copy, Debug, PartialEq, Eq)]
-pub(crate) struct Space {
+pub struct Space {
     pub largest: u16,
     pub free: u16,
     pub last: u16,
@@ -63,6 +64,17 @@ impl Space {
         match tile {
             Tile::Hole { len, .. } => self.with_hole(*len),
             Tile::Seg { .. } => self.with_cell(),
+        }
+    }
+
+    /// A tile of this kind, and of this length.
+    pub(crate) fn with_head(self, head: Head, len: u16) -> Space
+        ensures { (tiles : List TileOf) (at : ℕ) (bytes : List ℕ) → self ≡ space_of tiles → len ≡ number16 2 bytes
+            → result ≡ space_of (tiles ++ tile_of head at bytes ∷ []) }
+    {
+        match head {
+            Head::Hole => self.with_hole(len),
+            Head::Seg(_) => self.with_cell(),
         }
     }
 

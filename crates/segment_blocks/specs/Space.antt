@@ -1,8 +1,8 @@
 -- What is known of a page's tiles without reading them again: how much is free, and where.
-use Rattle.std.specs.Prelude.{◌≡◌, ℕ, ◌+◌, ◌-◌, ◌^◌, min, max, Bool, true, false, ◌||◌, List, [], ◌∷◌}
+use Rattle.std.specs.Prelude.{◌≡◌, ℕ, zero, suc, ◌+◌, ◌-◌, ◌^◌, min, max, Bool, true, false, ◌||◌, List, [], ◌∷◌}
 use Rattle.segment_blocks.specs.declared.tile.Tile.{Tile}
 use Rattle.segment_blocks.specs.declared.tile.Tile.TheVariants.{Hole, Seg}
-use Rattle.free_space.specs.declared.space.Space.{Space}
+use Rattle.segment_blocks.specs.declared.space.Space.{Space}
 
 abbrev pub hole_length : Tile → ℕ
 hole_length (Hole at len) = len
@@ -43,3 +43,8 @@ space_of tiles = record {
 -- none of them is a cell
 abbrev pub AreHoles : List Tile → Type 0
 AreHoles tiles = holds_cell tiles ≡ false
+
+-- what is left of a hole, none where nothing is
+abbrev pub left_over : ℕ → ℕ → List Tile
+left_over at zero = []
+left_over at (suc len) = Hole at (suc len) ∷ []

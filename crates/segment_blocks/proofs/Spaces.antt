@@ -4,8 +4,8 @@ use Rattle.std.proofs.lemmas.List.{take_more, take_all}
 use Rattle.segment_blocks.specs.declared.tile.Cell.{Cell}
 use Rattle.segment_blocks.specs.declared.tile.Tile.{Tile}
 use Rattle.segment_blocks.specs.declared.tile.Tile.TheVariants.{Hole, Seg}
-use Rattle.free_space.specs.declared.space.Space.{Space}
-use Rattle.free_space.specs.Space.{hole_length, largest_hole, free_bytes, last_hole, is_cell, holds_cell, space_of}
+use Rattle.segment_blocks.specs.declared.space.Space.{Space}
+use Rattle.segment_blocks.specs.Space.{hole_length, largest_hole, free_bytes, last_hole, is_cell, holds_cell, space_of}
 
 pub largest-append : (xs ys : List Tile) → largest_hole (xs ++ ys) ≡ max (largest_hole xs) (largest_hole ys)
 largest-append [] ys = omega arith

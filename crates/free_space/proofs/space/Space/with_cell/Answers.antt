@@ -1,5 +1,0 @@
-use Rattle.free_space.proofs.Spaces.{cell_more}
-use Rattle.free_space.proofs.space.Space.with_cell.Goals as goal
-
-pub returns : goal.returns
-returns c = λ tiles at cell is. cell_more c.args.self tiles at cell is
