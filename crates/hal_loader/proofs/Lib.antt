@@ -1,0 +1,4 @@
+pub mod Climbs
+pub mod KeyOrder
+pub mod Lists
+pub mod Newest
