@@ -18,22 +18,24 @@ row_code row = row.code
 pub path_map : (types : List SegType) (wanted : Option ℕ) (path : List Row)
     → path_from code_kept wanted (map (level_kept types) path) ≡ map (level_kept types) (path_from row_code wanted path)
 path_map types wanted [] = refl
-path_map types wanted (row ∷ above) = by (is_of wanted row.code)
+path_map types wanted (row ∷ above) = by (is_of wanted row.code) (path_map types wanted above)
   where
-    by : (b : Bool) → cond b (map (level_kept types) (row ∷ above)) (path_from code_kept wanted (map (level_kept types) above))
+    by : (b : Bool) → path_from code_kept wanted (map (level_kept types) above) ≡ map (level_kept types) (path_from row_code wanted above)
+        → cond b (map (level_kept types) (row ∷ above)) (path_from code_kept wanted (map (level_kept types) above))
         ≡ map (level_kept types) (cond b (row ∷ above) (path_from row_code wanted above))
-    by true = refl
-    by false = path_map types wanted above
+    by true go = refl
+    by false go = go
 
 pub passed_map : (types : List SegType) (wanted : Option ℕ) (passed : Option Row) (path : List Row)
     → passed_on code_kept wanted (option_map (level_kept types) passed) (map (level_kept types) path) ≡ option_map (level_kept types) (passed_on row_code wanted passed path)
 passed_map types wanted passed [] = refl
-passed_map types wanted passed (row ∷ above) = by (is_of wanted row.code)
+passed_map types wanted passed (row ∷ above) = by (is_of wanted row.code) (passed_map types wanted (Some row) above)
   where
-    by : (b : Bool) → cond b (option_map (level_kept types) passed) (passed_on code_kept wanted (Some (level_kept types row)) (map (level_kept types) above))
+    by : (b : Bool) → passed_on code_kept wanted (Some (level_kept types row)) (map (level_kept types) above) ≡ option_map (level_kept types) (passed_on row_code wanted (Some row) above)
+        → cond b (option_map (level_kept types) passed) (passed_on code_kept wanted (Some (level_kept types row)) (map (level_kept types) above))
         ≡ option_map (level_kept types) (cond b passed (passed_on row_code wanted (Some row) above))
-    by true = refl
-    by false = passed_map types wanted (Some row) above
+    by true go = refl
+    by false go = go
 
 -- the name at the front
 pub first_kept : (types : List SegType) (path : List Row) → option_map (λ (l : Level). l.name) (slice_get (map (level_kept types) path) 0) ≡ first_name path
@@ -91,24 +93,25 @@ pub record Climbed (schema : Schema) (rows : List Row) (below : Option Row) (abo
 pub climbed : (schema : Schema) (rows : List Row) (wanted : Option ℕ) (passed : Option Row) (path : List Row)
     → Climbed schema rows passed path → Climbed schema rows (passed_on row_code wanted passed path) (path_from row_code wanted path)
 climbed schema rows wanted passed [] c = c
-climbed schema rows wanted passed (row ∷ above) c = by (is_of wanted row.code)
+climbed schema rows wanted passed (row ∷ above) c = by (is_of wanted row.code) (climbed schema rows wanted (Some row) above (record {
+  siblings = c.on_path.0;
+  on_path = c.on_path.1;
+  apart = (and_parts (list_all (names_apart row) above) (all_pairs names_apart above) c.apart).1;
+}))
   where
-    by : (b : Bool) → Climbed schema rows (cond b passed (passed_on row_code wanted (Some row) above)) (cond b (row ∷ above) (path_from row_code wanted above))
-    by true = c
-    by false = climbed schema rows wanted (Some row) above (record {
-      siblings = c.on_path.0;
-      on_path = c.on_path.1;
-      apart = (and_parts (list_all (names_apart row) above) (all_pairs names_apart above) c.apart).1;
-    })
+    by : (b : Bool) → Climbed schema rows (passed_on row_code wanted (Some row) above) (path_from row_code wanted above)
+        → Climbed schema rows (cond b passed (passed_on row_code wanted (Some row) above)) (cond b (row ∷ above) (path_from row_code wanted above))
+    by true go = c
+    by false go = go
 
 -- what a path begins with is of the type that was looked for
 pub first_is_of : (wanted : Option ℕ) (path : List Row) (row : Row) (above : List Row) → path_from row_code wanted path ≡ row ∷ above → is_of wanted row.code ≡ true
 first_is_of wanted [] row above e = cc e
-first_is_of wanted (r ∷ path) row above e = by (is_of wanted r.code) refl e
+first_is_of wanted (r ∷ path) row above e = by (is_of wanted r.code) refl e (first_is_of wanted path row above)
   where
-    by : (b : Bool) → is_of wanted r.code ≡ b → cond b (r ∷ path) (path_from row_code wanted path) ≡ row ∷ above → is_of wanted row.code ≡ true
-    by true f g = let same : r ≡ row = cc g in ap (λ (x : Row). is_of wanted x.code) (sym same) ∙ f
-    by false f g = first_is_of wanted path row above g
+    by : (b : Bool) → is_of wanted r.code ≡ b → cond b (r ∷ path) (path_from row_code wanted path) ≡ row ∷ above → (path_from row_code wanted path ≡ row ∷ above → is_of wanted row.code ≡ true) → is_of wanted row.code ≡ true
+    by true f g go = let same : r ≡ row = cc g in ap (λ (x : Row). is_of wanted x.code) (sym same) ∙ f
+    by false f g go = go g
 
 -- a root has none above it
 pub none_above : (path : List Row) → path_from row_code None path ≡ []

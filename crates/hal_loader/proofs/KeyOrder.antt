@@ -16,6 +16,7 @@ up_to_next r p n le not_lt = by (key_cmp r p) (key_cmp n p) refl refl le not_lt
   where
     o : IsTotalOrder key_cmp
     o = nat_list_cmp_total
+
     by : (a b : Ordering) → key_cmp r p ≡ a → key_cmp n p ≡ b → is_le a ≡ true → is_lt b ≡ false → is_le (key_cmp r n) ≡ true
     by Greater b e f h k = cc h
     by a Less e f h k = cc k

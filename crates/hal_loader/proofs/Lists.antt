@@ -43,58 +43,59 @@ all_dropped p n xs h = (all_parts p (take n xs) (drop n xs) (ap (list_all p) (ta
 -- ---- finding
 
 find_skips : {X : Type 0} (p : X → Bool) (front : List X) (x : X) (back : List X) → p x ≡ false → find p (front ++ x ∷ back) ≡ find p (front ++ back)
-find_skips p [] x back no = ap (λ b. cond b (Some x) (find p back)) no
-find_skips p (y ∷ front) x back no = ap (λ o. cond (p y) (Some y) o) (find_skips p front x back no)
+find_skips p [] x back fails = ap (λ b. cond b (Some x) (find p back)) fails
+find_skips p (y ∷ front) x back fails = ap (λ o. cond (p y) (Some y) o) (find_skips p front x back fails)
 
 pub find_inserted : {X : Type 0} (p : X → Bool) (xs : List X) (k : ℕ) (x : X) → p x ≡ false → find p (insert xs k x) ≡ find p xs
-find_inserted p xs k x no = find_skips p (take k xs) x (drop k xs) no ∙ ap (find p) (take-append-drop k xs)
+find_inserted p xs k x fails = find_skips p (take k xs) x (drop k xs) fails ∙ ap (find p) (take-append-drop k xs)
 
 find_new : {X : Type 0} (p : X → Bool) (front : List X) (x : X) (back : List X) → is_none (find p (front ++ back)) ≡ true → p x ≡ true
     → find p (front ++ x ∷ back) ≡ Some x
-find_new p [] x back none yes = ap (λ b. cond b (Some x) (find p back)) yes
-find_new {X} p (y ∷ front) x back none yes = by (p y) refl none
+find_new p [] x back none passes = ap (λ b. cond b (Some x) (find p back)) passes
+find_new {X} p (y ∷ front) x back none passes = by (p y) refl none (λ rest. find_new p front x back rest passes)
   where
-    by : (b : Bool) → p y ≡ b → is_none (cond (p y) (Some y) (find p (front ++ back))) ≡ true → cond (p y) (Some y) (find p (front ++ x ∷ back)) ≡ Some x
-    by true e h = let no : is_none (cond true (Some y) (find p (front ++ back))) ≡ true = ap (λ b. is_none (cond b (Some y) (find p (front ++ back)))) (sym e) ∙ h in cc no
-    by false e h =
+    by : (b : Bool) → p y ≡ b → is_none (cond (p y) (Some y) (find p (front ++ back))) ≡ true → (is_none (find p (front ++ back)) ≡ true → find p (front ++ x ∷ back) ≡ Some x)
+        → cond (p y) (Some y) (find p (front ++ x ∷ back)) ≡ Some x
+    by true e h go = let found : is_none (cond true (Some y) (find p (front ++ back))) ≡ true = ap (λ b. is_none (cond b (Some y) (find p (front ++ back)))) (sym e) ∙ h in cc found
+    by false e h go =
         let rest : is_none (find p (front ++ back)) ≡ true = ap (λ b. is_none (cond b (Some y) (find p (front ++ back)))) (sym e) ∙ h in
-        ap (λ b. cond b (Some y) (find p (front ++ x ∷ back))) e ∙ find_new p front x back rest yes
+        ap (λ b. cond b (Some y) (find p (front ++ x ∷ back))) e ∙ go rest
 
 pub find_inserted_new : {X : Type 0} (p : X → Bool) (xs : List X) (k : ℕ) (x : X) → is_none (find p xs) ≡ true → p x ≡ true → find p (insert xs k x) ≡ Some x
-find_inserted_new p xs k x none yes = find_new p (take k xs) x (drop k xs) (ap (λ l. is_none (find p l)) (take-append-drop k xs) ∙ none) yes
+find_inserted_new p xs k x none passes = find_new p (take k xs) x (drop k xs) (ap (λ l. is_none (find p l)) (take-append-drop k xs) ∙ none) passes
 
 -- what is found passes
 pub found_passes : {X : Type 0} (p : X → Bool) (xs : List X) (x : X) → find p xs ≡ Some x → p x ≡ true
 found_passes p [] x e = cc e
-found_passes {X} p (y ∷ xs) x e = by (p y) refl e
+found_passes {X} p (y ∷ xs) x e = by (p y) refl e (found_passes p xs x)
   where
-    by : (b : Bool) → p y ≡ b → cond (p y) (Some y) (find p xs) ≡ Some x → p x ≡ true
-    by true t h =
+    by : (b : Bool) → p y ≡ b → cond (p y) (Some y) (find p xs) ≡ Some x → (find p xs ≡ Some x → p x ≡ true) → p x ≡ true
+    by true t h go =
         let some : Some y ≡ Some x = ap (λ b. cond b (Some y) (find p xs)) (sym t) ∙ h in
         let same : y ≡ x = cc some in
         ap p (sym same) ∙ t
-    by false t h = found_passes p xs x (ap (λ b. cond b (Some y) (find p xs)) (sym t) ∙ h)
+    by false t h go = go (ap (λ b. cond b (Some y) (find p xs)) (sym t) ∙ h)
 
 -- and of what every item passes, so does it
 pub found_all : {X : Type 0} (p q : X → Bool) (xs : List X) (x : X) → find p xs ≡ Some x → list_all q xs ≡ true → q x ≡ true
 found_all p q [] x e all = cc e
-found_all {X} p q (y ∷ xs) x e all = let a = and_parts (q y) (list_all q xs) all in by (p y) refl e a.0 a.1
+found_all {X} p q (y ∷ xs) x e all = let a = and_parts (q y) (list_all q xs) all in by (p y) refl e a.0 (λ h. found_all p q xs x h a.1)
   where
-    by : (b : Bool) → p y ≡ b → cond (p y) (Some y) (find p xs) ≡ Some x → q y ≡ true → list_all q xs ≡ true → q x ≡ true
-    by true t h one rest =
+    by : (b : Bool) → p y ≡ b → cond (p y) (Some y) (find p xs) ≡ Some x → q y ≡ true → (find p xs ≡ Some x → q x ≡ true) → q x ≡ true
+    by true t h one go =
         let some : Some y ≡ Some x = ap (λ b. cond b (Some y) (find p xs)) (sym t) ∙ h in
         let same : y ≡ x = cc some in
         ap q (sym same) ∙ one
-    by false t h one rest = found_all p q xs x (ap (λ b. cond b (Some y) (find p xs)) (sym t) ∙ h) rest
+    by false t h one go = go (ap (λ b. cond b (Some y) (find p xs)) (sym t) ∙ h)
 
 -- ---- those that pass
 
 filter_skips : {X : Type 0} (p : X → Bool) (front : List X) (x : X) (back : List X) → p x ≡ false → filter p (front ++ x ∷ back) ≡ filter p (front ++ back)
-filter_skips p [] x back no = ap (λ b. cond b (x ∷ filter p back) (filter p back)) no
-filter_skips p (y ∷ front) x back no = ap (λ l. cond (p y) (y ∷ l) l) (filter_skips p front x back no)
+filter_skips p [] x back fails = ap (λ b. cond b (x ∷ filter p back) (filter p back)) fails
+filter_skips p (y ∷ front) x back fails = ap (λ l. cond (p y) (y ∷ l) l) (filter_skips p front x back fails)
 
 pub filter_inserted : {X : Type 0} (p : X → Bool) (xs : List X) (k : ℕ) (x : X) → p x ≡ false → filter p (insert xs k x) ≡ filter p xs
-filter_inserted p xs k x no = filter_skips p (take k xs) x (drop k xs) no ∙ ap (filter p) (take-append-drop k xs)
+filter_inserted p xs k x fails = filter_skips p (take k xs) x (drop k xs) fails ∙ ap (filter p) (take-append-drop k xs)
 
 pub filter_none : {X : Type 0} (p : X → Bool) (xs : List X) → list_all (λ x. not (p x)) xs ≡ true → filter p xs ≡ []
 filter_none p [] h = refl
@@ -104,17 +105,18 @@ filter_none p (x ∷ xs) h =
 
 last_new : {X : Type 0} (p : X → Bool) (o : Option X) (front : List X) (x : X) (back : List X) → p x ≡ true → list_all (λ y. not (p y)) back ≡ true
     → last_or o (filter p (front ++ x ∷ back)) ≡ Some x
-last_new p o [] x back yes none = ap (λ b. last_or o (cond b (x ∷ filter p back) (filter p back))) yes ∙ ap (λ l. last_or o (x ∷ l)) (filter_none p back none)
-last_new {X} p o (y ∷ front) x back yes none = by (p y) refl
+last_new p o [] x back passes none = ap (λ b. last_or o (cond b (x ∷ filter p back) (filter p back))) passes ∙ ap (λ l. last_or o (x ∷ l)) (filter_none p back none)
+last_new {X} p o (y ∷ front) x back passes none = by (p y) refl (last_new p (Some y) front x back passes none) (last_new p o front x back passes none)
   where
-    by : (b : Bool) → p y ≡ b → last_or o (cond (p y) (y ∷ filter p (front ++ x ∷ back)) (filter p (front ++ x ∷ back))) ≡ Some x
-    by true e = ap (λ b. last_or o (cond b (y ∷ filter p (front ++ x ∷ back)) (filter p (front ++ x ∷ back)))) e ∙ last_new p (Some y) front x back yes none
-    by false e = ap (λ b. last_or o (cond b (y ∷ filter p (front ++ x ∷ back)) (filter p (front ++ x ∷ back)))) e ∙ last_new p o front x back yes none
+    by : (b : Bool) → p y ≡ b → last_or (Some y) (filter p (front ++ x ∷ back)) ≡ Some x → last_or o (filter p (front ++ x ∷ back)) ≡ Some x
+        → last_or o (cond (p y) (y ∷ filter p (front ++ x ∷ back)) (filter p (front ++ x ∷ back))) ≡ Some x
+    by true e kept skipped = ap (λ b. last_or o (cond b (y ∷ filter p (front ++ x ∷ back)) (filter p (front ++ x ∷ back)))) e ∙ kept
+    by false e kept skipped = ap (λ b. last_or o (cond b (y ∷ filter p (front ++ x ∷ back)) (filter p (front ++ x ∷ back)))) e ∙ skipped
 
 -- the last that passes is the one inserted, where none behind it passes
 pub last_inserted : {X : Type 0} (p : X → Bool) (xs : List X) (k : ℕ) (x : X) → p x ≡ true → list_all (λ y. not (p y)) (drop k xs) ≡ true
     → last_or None (filter p (insert xs k x)) ≡ Some x
-last_inserted p xs k x yes none = last_new p None (take k xs) x (drop k xs) yes none
+last_inserted p xs k x passes none = last_new p None (take k xs) x (drop k xs) passes none
 
 -- ---- behind the last that passes
 
@@ -129,13 +131,16 @@ none_behind test (x ∷ xs) = by (cases_eq (suffix_len q xs) (length xs)) (none_
   where
     q : Row → Bool
     q y = not (test y)
+
     at : (n m : ℕ) → n ≡ m → list_all q (drop m (x ∷ xs)) ≡ true → list_all q (drop n (x ∷ xs)) ≡ true
     at n m e h = subst (λ (k : ℕ). list_all q (drop k (x ∷ xs)) ≡ true) (sym e) h
+
     one : (b : Bool) → q x ≡ b → suffix_len q xs ≡ length xs → list_all q xs ≡ true → list_all q (drop (suc (length xs) - suffix_len q (x ∷ xs)) (x ∷ xs)) ≡ true
     one b e all rest = pass b e
       where
         long : suffix_len q (x ∷ xs) ≡ length xs + cond (q x) 1 0
         long = suffix_cons q x xs ∙ ap (λ c. cond c (length xs + cond (q x) 1 0) (suffix_len q xs)) (eq-eqb (suffix_len q xs) (length xs) all)
+
         pass : (b : Bool) → q x ≡ b → list_all q (drop (suc (length xs) - suffix_len q (x ∷ xs)) (x ∷ xs)) ≡ true
         pass true f =
             let n : suffix_len q (x ∷ xs) ≡ length xs + 1 = long ∙ ap (λ c. length xs + cond c 1 0) f in
@@ -143,6 +148,7 @@ none_behind test (x ∷ xs) = by (cases_eq (suffix_len q xs) (length xs)) (none_
         pass false f =
             let n : suffix_len q (x ∷ xs) ≡ length xs + 0 = long ∙ ap (λ c. length xs + cond c 1 0) f in
             at (suc (length xs) - suffix_len q (x ∷ xs)) 1 (omega (arith, n)) rest
+
     by : (suffix_len q xs ≡ length xs) ⊎ (suffix_len q xs ≡ length xs → ⊥) → list_all q (drop (length xs - suffix_len q xs) xs) ≡ true
         → list_all q (drop (suc (length xs) - suffix_len q (x ∷ xs)) (x ∷ xs)) ≡ true
     by (inl all) h = one (q x) refl all (subst (λ (k : ℕ). list_all q (drop k xs) ≡ true) (let e : length xs - suffix_len q xs ≡ 0 = omega (arith, all) in e) h)

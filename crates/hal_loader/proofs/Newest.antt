@@ -38,11 +38,11 @@ any_none t (x ∷ xs) h =
 
 none_any : {X : Type 0} (t : X → Bool) (xs : List X) → list_any t xs ≡ false → list_all (λ x. not (t x)) xs ≡ true
 none_any t [] h = refl
-none_any t (x ∷ xs) h = by (t x) h
+none_any t (x ∷ xs) h = by (t x) h (none_any t xs)
   where
-    by : (b : Bool) → (b || list_any t xs) ≡ false → (not b && list_all (λ x. not (t x)) xs) ≡ true
-    by true e = cc e
-    by false e = none_any t xs e
+    by : (b : Bool) → (b || list_any t xs) ≡ false → (list_any t xs ≡ false → list_all (λ x. not (t x)) xs ≡ true) → (not b && list_all (λ x. not (t x)) xs) ≡ true
+    by true e go = cc e
+    by false e go = go e
 
 pub not_all : {X : Type 0} (a e b : X → Bool) → ((x : X) → e x ≡ b x) → (xs : List X)
     → not (list_all (λ x. not (a x && e x)) xs) ≡ list_any (λ x. a x && b x) xs
@@ -55,15 +55,15 @@ not_all a e b w (x ∷ xs) = ap (λ c. not (not (a x && c) && list_all (λ x. no
     by false r = r
 
 -- of two tests, if one is not, the other
-either : (a b : Bool) → (not a || b) ≡ true → a ≡ true → b ≡ true
+pub either : (a b : Bool) → (not a || b) ≡ true → a ≡ true → b ≡ true
 either true b h e = h
 either false b h e = cc e
 
-from_if : (a b : Bool) → (a ≡ true → b ≡ true) → (not a || b) ≡ true
+pub from_if : (a b : Bool) → (a ≡ true → b ≡ true) → (not a || b) ≡ true
 from_if true b h = h refl
 from_if false b h = refl
 
-unless : (a : Bool) → (a ≡ true → ⊥) → not a ≡ true
+pub unless : (a : Bool) → (a ≡ true → ⊥) → not a ≡ true
 unless true h = absurd (h refl)
 unless false h = refl
 
@@ -96,15 +96,18 @@ root_eq schema a b = by (bytes_eq a b) refl
     last Equal Less z h = cc h
     last Equal Greater z h = cc h
     last Equal Equal z h = h
+
     itself : is_eq (root_cmp schema a a) ≡ true
     itself =
         let x : nat_cmp (partition_place schema a) (partition_place schema a) ≡ Equal = tied_itself nat_cmp_total (partition_place schema a) in
         let y : nat_cmp (anchor_place schema a) (anchor_place schema a) ≡ Equal = tied_itself nat_cmp_total (anchor_place schema a) in
         ap (λ (o : Ordering). is_eq (ordering_then o (ordering_then (nat_cmp (anchor_place schema a) (anchor_place schema a)) (key_cmp a a)))) x
         ∙ ap (λ (o : Ordering). is_eq (ordering_then o (key_cmp a a))) y ∙ is_eq-slice_cmp a a ∙ key_itself a
+
     no : (c : Bool) → is_eq (root_cmp schema a b) ≡ c → bytes_eq a b ≡ false → c ≡ false
     no true e f = absurd (true≢false (sym (last (nat_cmp (partition_place schema a) (partition_place schema b)) (nat_cmp (anchor_place schema a) (anchor_place schema b)) (key_cmp a b) e) ∙ is_eq-slice_cmp a b ∙ f))
     no false e f = refl
+
     by : (c : Bool) → bytes_eq a b ≡ c → is_eq (root_cmp schema a b) ≡ c
     by true e = subst (λ (k : List ℕ). is_eq (root_cmp schema a k) ≡ true) (same_key a b e) itself
     by false e = no (is_eq (root_cmp schema a b)) refl e
@@ -136,12 +139,14 @@ later_is schema rows (Some p) above new s e = by (nat_lt new.code p.code) refl
   where
     same : new.parent ≡ p.parent
     same = e ∙ sym s.parent
+
     yes : nat_lt new.code p.code ≡ true → (b : Bool) → list_any (is_later_sibling new) rows ≡ b → b ≡ true
     yes lt true h = refl
     yes lt false h =
         let none = found_all (λ r. same_name r.name p.name) (λ x. not (is_later_sibling new x)) rows p s.newest.found (none_any (is_later_sibling new) rows h) in
         let is : is_later_sibling new p ≡ true = and_from (same_parent p.parent new.parent) (nat_lt new.code p.code) (same_parent_from p.parent new.parent (sym same)) lt in
         absurd (both_ways (is_later_sibling new p) (not-true (is_later_sibling new p) none) is)
+
     each : nat_lt new.code p.code ≡ false → (x : Row) → (not (same_parent x.parent p.parent) || nat_le x.code p.code) ≡ true → not (is_later_sibling new x) ≡ true
     each not_lt x h = unless (is_later_sibling new x) (λ is.
         let a = and_parts (same_parent x.parent new.parent) (nat_lt new.code x.code) is in
@@ -149,12 +154,13 @@ later_is schema rows (Some p) above new s e = by (nat_lt new.code p.code) refl
         let lt = ltb-true new.code x.code a.1 in
         let ge = ltb-false new.code p.code not_lt in
         absurd (omega (arith, le, lt, ge)))
+
     by : (b : Bool) → nat_lt new.code p.code ≡ b → list_any (is_later_sibling new) rows ≡ b
     by true lt = yes lt (list_any (is_later_sibling new) rows) refl
     by false not_lt = any_none (is_later_sibling new) rows (all_weaker (λ x. not (same_parent x.parent p.parent) || nat_le x.code p.code) (λ x. not (is_later_sibling new x)) (each not_lt) rows s.newest.latest)
 
 -- where the newest child is of no later type, a twin of a row is of the newest child's type
-twin_is : (p new x : Row) → new.parent ≡ p.parent → nat_lt new.code p.code ≡ false → (not (same_parent x.parent p.parent) || nat_le x.code p.code) ≡ true
+pub twin_is : (p new x : Row) → new.parent ≡ p.parent → nat_lt new.code p.code ≡ false → (not (same_parent x.parent p.parent) || nat_le x.code p.code) ≡ true
     → are_twins x new ≡ true → (p.code ≡ new.code) × (are_twins x p ≡ true)
 twin_is p new x same not_later latest twins =
     let a = and_parts (x.code == new.code) (same_parent x.parent new.parent) twins in
@@ -185,8 +191,10 @@ under_is schema rows (Some p) above new s e plain not_later = by (p.code == new.
   where
     same : new.parent ≡ p.parent
     same = e ∙ sym s.parent
+
     kn : List ℕ
     kn = row_key schema.types new
+
     by : (b : Bool) → (p.code == new.code) ≡ b → is_below_last schema.types rows new ≡ (b && is_lt (key_cmp (row_key schema.types new) (row_key schema.types p)))
     by true f =
         let code : p.code ≡ new.code = eqb-true p.code new.code f in
@@ -222,10 +230,12 @@ any_key schema rows (Some p) above new s e plain not_later not_above = by (p.cod
   where
     same : new.parent ≡ p.parent
     same = e ∙ sym s.parent
+
     yes : (c : Bool) → list_any (has_key schema.types new) rows ≡ c → has_key schema.types new p ≡ true → c ≡ true
     yes true h is = refl
     yes false h is = absurd (both_ways (has_key schema.types new p)
-      (not-true (has_key schema.types new p) (found_all (λ (r : Row). same_name r.name p.name) (λ (x : Row). not (has_key schema.types new x)) rows p s.newest.found (none_any (has_key schema.types new) rows h))) is)
+        (not-true (has_key schema.types new p) (found_all (λ (r : Row). same_name r.name p.name) (λ (x : Row). not (has_key schema.types new x)) rows p s.newest.found (none_any (has_key schema.types new) rows h))) is)
+
     by : (b : Bool) → (p.code == new.code && bytes_eq (row_key schema.types new) (row_key schema.types p)) ≡ b → list_any (has_key schema.types new) rows ≡ b
     by true f =
         let a = and_parts (p.code == new.code) (bytes_eq (row_key schema.types new) (row_key schema.types p)) f in
@@ -247,16 +257,18 @@ any_key schema rows (Some p) above new s e plain not_later not_above = by (p.cod
             let not_lt : is_lt (key_cmp (row_key schema.types new) (row_key schema.types p)) ≡ false = ap (λ (c : Bool). c && is_lt (key_cmp (row_key schema.types new) (row_key schema.types p))) (sym code) ∙ not_above in
             let again = same_as_last (row_key schema.types new) (row_key schema.types p) up not_lt in
             absurd (true≢false (sym (and_from (p.code == new.code) (bytes_eq (row_key schema.types new) (row_key schema.types p)) code again) ∙ f)))
+
         by_key : goes_by_key schema p ≡ true → (x : Row) → (not (same_parent x.parent p.parent) || nat_le x.code p.code) ≡ true → not (has_key schema.types new x) ≡ true
         by_key g x h = unless (has_key schema.types new x) (λ is.
             let a = and_parts (are_twins x new) (bytes_eq (row_key schema.types x) (row_key schema.types new)) is in
             let t = twin_is p new x same not_later h a.0 in
             absurd (true≢false (sym g ∙ ap (λ (c : ℕ). schema.phdam && c == 1) t.0 ∙ plain)))
+
         split : (c : Bool) → goes_by_key schema p ≡ c → list_any (has_key schema.types new) rows ≡ false
         split true g = any_none (has_key schema.types new) rows (all_weaker (λ (x : Row). not (same_parent x.parent p.parent) || nat_le x.code p.code) (λ (x : Row). not (has_key schema.types new x)) (by_key g) rows s.newest.latest)
         split false g = any_none (has_key schema.types new) rows
-          (all_both (λ (x : Row). not (same_parent x.parent p.parent) || nat_le x.code p.code) (λ (x : Row). not (are_twins x p) || is_le (key_cmp (row_key schema.types x) (row_key schema.types p)))
-          (λ (x : Row). not (has_key schema.types new x)) each rows s.newest.latest (s.newest.highest g))
+            (all_both (λ (x : Row). not (same_parent x.parent p.parent) || nat_le x.code p.code) (λ (x : Row). not (are_twins x p) || is_le (key_cmp (row_key schema.types x) (row_key schema.types p)))
+            (λ (x : Row). not (has_key schema.types new x)) each rows s.newest.latest (s.newest.highest g))
 
 -- is the unique key there among the twins?
 pub again_is : (schema : Schema) (rows : List Row) (below : Option Row) (above : List Row) (new : Row) → Siblings schema rows below above → new.parent ≡ first_name above

@@ -1,6 +1,6 @@
 -- What a load keeps of the rows before: of each row on the path its type, its name and its key. The last row below a
 -- parent is the newest of its children, so it alone tells what the next child may be.
-use Rattle.std.specs.Prelude.{◌≡◌, ℕ, ◌==◌, nat_lt, nat_le, true, false, not, Bool, ◌&&◌, ◌||◌, List, [], ◌∷◌, map, Option, None, Some, option_map, MatchOption, Result, Ok, Err, ⊤, if◌then◌else◌}
+use Rattle.std.specs.Prelude.{◌≡◌, ℕ, ◌+◌, ◌≤◌, ◌==◌, nat_lt, nat_le, true, false, not, Bool, ◌&&◌, ◌||◌, List, [], ◌∷◌, map, Option, None, Some, option_map, MatchOption, Result, Ok, Err, ⊤, if◌then◌else◌}
 use Rattle.std.specs.List.{list_all, last_or, slice_get}
 use Rattle.std.specs.Option.{option_map_or}
 use Rattle.std.specs.Ordering.{is_le, is_lt}
@@ -12,8 +12,8 @@ use Rattle.hal_schema.specs.Forest.{all_pairs, names_apart}
 use Rattle.hal_schema.specs.Keys.{key_cmp}
 use Rattle.hal_schema.specs.Row.{row_named, is_new_name, same_parent, are_twins, row_key}
 use Rattle.hal_schema.specs.SegType.{parent_code}
-use Rattle.hal_loader.specs.Placing.{is_of, first_name, goes_by_key}
-use Rattle.hal_loader.specs.Refusals.{Standing, twins_of, refusal_of}
+use Rattle.hal_loader.specs.Placing.{is_of, coming, with_name, first_name, parent_path, goes_by_key, load_need}
+use Rattle.hal_loader.specs.Refusals.{Standing, twins_of, first_that_holds, row_refusals, refusal_of}
 use Rattle.hal_loader.specs.Loading.{Taken, Loads, AreLoaded, begin, stands_after, stands_after_all}
 use Rattle.hal_loader.specs.Taker.{TakerView}
 use Rattle.hal_loader.specs.declared.fault.RowFault.{RowFault}
@@ -75,6 +75,26 @@ pub record StandsAs (schema : Schema) (view : TakerView) (levels : List Level) (
 -- where rows are told, something stands
 abbrev pub Stands : Schema → TakerView → List Level → Type 0
 Stands schema view levels = MatchOption view.rows ⊤ (λ rows. (at : Standing) × StandsAs schema view levels at)
+
+-- the row of a type and a content, below what stands
+abbrev pub row_at : List SegType → List Row → ℕ → List ℕ → Row
+row_at types path code content = coming (first_name (parent_path types path code)) code content
+
+-- a row was taken that breaks no rule
+pub record Places (schema : Schema) (at : Standing) (said : Row) (taken : Taken) : Type 0 where
+  pub kept : first_that_holds (row_refusals schema at.rows at.free said) ≡ None
+  pub said_is : taken.row ≡ with_name said taken.row.name
+  pub new : is_new_name at.rows taken.row.name ≡ true
+  pub need : at.free ≤ taken.free + load_need schema at.rows said
+
+-- what a type and a content did to what stood
+abbrev pub RowPlaced : Schema → Standing → ℕ → List ℕ → TakerView → List Level → Result Unit RowFault → Type 0
+RowPlaced schema at code content new levels (Ok done) =
+    (taken : Taken) × Places schema at (row_at schema.types at.path code content) taken × StandsAs schema new levels (stands_after schema at taken)
+RowPlaced schema at code content new levels (Err (Broken rule)) =
+    (first_that_holds (row_refusals schema at.rows at.free (row_at schema.types at.path code content)) ≡ Some rule) × (new.rows ≡ Some at.rows) × (new.free ≡ at.free)
+RowPlaced schema at code content new levels (Err Failed) = ⊤
+RowPlaced schema at code content new levels (Err Memory) = ⊤
 
 -- what a record did to what stood
 abbrev pub RowDid : Schema → Standing → List (List ℕ) → TakerView → List Level → Result Unit RowFault → Type 0

@@ -1,14 +1,11 @@
 -- What a record says by itself, as the reader of one answers it.
-use Rattle.std.specs.Prelude.{◌≡◌, ℕ, ◌==◌, List, [], ◌∷◌, length, Option, None, Some, Result, Ok, Err, ⊤, if◌then◌else◌}
+use Rattle.std.specs.Prelude.{◌≡◌, ℕ, List, None, Some, Result, Ok, Err, ⊤}
 use Rattle.hal_schema.specs.declared.schema.SegType.{SegType}
 use Rattle.hal_loader.specs.Refusals.{first_that_holds, text_refusals}
 use Rattle.hal_loader.specs.Text.{code_said, content_said}
 use Rattle.hal_loader.specs.declared.fault.RowFault.{RowFault}
 use Rattle.hal_loader.specs.declared.fault.RowFault.TheVariants.{Broken, Failed, Memory}
 use Rattle.hal_loader.specs.declared.said.Said.{Said}
-
-abbrev pub three_of : List (List ℕ) → Option (List (List ℕ))
-three_of fields = if length fields == 3 then Some fields else None
 
 -- a type and a content, and no refusal
 pub record IsSaid (types : List SegType) (fields : List (List ℕ)) (said : Said) : Type 0 where

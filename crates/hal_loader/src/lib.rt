@@ -7,7 +7,7 @@
 //! - `taker`: `RowTaker`, what takes one row at a time;
 //! - `records`: the loop over the records, and `row`: one of them;
 //! - `said`: what a record says by itself;
-//! - `path`: what is kept of the rows before;
+//! - `path`: what is kept of the rows before; `twins`: what the newest sibling tells of a row;
 //! - `fault`: why a row is refused;
 //! - `unload`: a row as a record.
 //!
@@ -17,12 +17,12 @@
 #![tactic(auto)]
 
 mod fault;
-
 mod path;
 mod records;
 mod row;
 mod said;
 mod taker;
+mod twins;
 mod unload;
 
 pub use records::{LoadFault, load};

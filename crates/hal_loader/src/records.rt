@@ -69,11 +69,11 @@ fn load_records<R: RowTaker>(
         .from_reader(alloc, text);
     let mut path = Path::new(alloc);
     let mut done = 0;
-    for record in reader.into_byte_records() {
-        let Ok(record) = record else {
+    for item in reader.into_byte_records() {
+        let Ok(fields) = item else {
             return Err(LoadFault::Memory);
         };
-        if let Err(why) = load_row(alloc, schema, &record, &mut path, into) {
+        if let Err(why) = load_row(alloc, schema, &fields, &mut path, into) {
             return Err(at_row(done, why));
         }
         done += 1;

@@ -6,7 +6,7 @@ ghost use Rattle.hal_base.specs.Fault.{Fails};
 ghost use Rattle.hal_schema.specs.Forest.{has_length, has_unique_key, is_selected};
 ghost use Rattle.hal_schema.specs.Row.{row_key};
 ghost use Rattle.hal_schema.specs.SegType.{parent_code, type_of};
-ghost use Rattle.hal_loader.specs.Carrying.{Stands, StandsAs, RowDid};
+ghost use Rattle.hal_loader.specs.Carrying.{Stands, StandsAs, RowDid, RowPlaced};
 ghost use Rattle.hal_loader.specs.Judging.{level_refusals, root_refusals, kept_refusals, JudgesBy, IsFaultOfTaker, IsJudgement};
 ghost use Rattle.hal_loader.specs.Placing.{coming, goes_by_key};
 ghost use Rattle.hal_loader.specs.Refusals.{Standing, first_that_holds};
@@ -14,12 +14,13 @@ ghost use Rattle.hal_loader.specs.Taker.{LooksForRoot, TellsSame};
 ghost use Rattle.hal_loader.specs.declared.fault.RowFault.TheVariants as row;
 
 use crate::fault::RowFault;
-use crate::path::{Level, Path, has_same_key, is_above_key, is_of_later_type};
+use crate::path::{Level, Path};
 use crate::said::{Said, row_said};
+use crate::twins::{key_of, level_refusal, parent_code};
 use crate::{RowTaker, TakeFault};
 use csv::ByteRecord;
-use hal_base::{Ilk, Key, Memory};
-use hal_schema::{Schema, SegType, select};
+use hal_base::{Ilk, Key};
+use hal_schema::{Schema, schemas_are_kept, select};
 use std::alloc::Global;
 
 impl From<TakeFault> for RowFault {
@@ -35,46 +36,6 @@ impl From<TakeFault> for RowFault {
             TakeFault::Failed => RowFault::Failed,
             TakeFault::Memory => RowFault::Memory,
         }
-    }
-}
-
-/// The first of the refusals that the newest sibling tells of.
-fn level_refusal(
-    schema: &Schema,
-    code: u8,
-    parent: Option<Ilk>,
-    key: &Key,
-    below: &Option<Level>,
-) -> Option<[u8; 2]>
-    requires above { 0 < code }
-    requires known { code ≤ length schema.now.types }
-    ensures { result ≡ first_that_holds (level_refusals schema.now code parent key.now below.now) }
-{
-    let t = &schema.types.as_slice()[code as usize - 1];
-    if t.parent.is_some() && parent.is_none() {
-        return Some(*b"LD");
-    }
-    if is_of_later_type(below, code) {
-        return Some(*b"LE");
-    }
-    if schema.phdam && code == 1 {
-        return None;
-    }
-    if is_above_key(below, code, key) {
-        return Some(*b"LC");
-    }
-    if has_unique_key(t) && has_same_key(below, code, key) {
-        return Some(*b"LB");
-    }
-    None
-}
-
-fn has_unique_key(t: &SegType) -> bool
-    ensures { result ≡ option_map_or (λ k. k.unique) t.now.key false }
-{
-    match t.key {
-        Some(key) => key.unique,
-        None => false,
     }
 }
 
@@ -129,8 +90,6 @@ fn judge<R: RowTaker>(
 ) -> Result<(), RowFault>
     requires live { IsTrue (R.seen into.old).live }
     requires same { R.schema into.old ≡ schema.now }
-    requires above { 0 < said.now.code }
-    requires known { said.now.code ≤ length schema.now.types }
     ensures judges { IfSome (R.seen into.old).rows (λ rows. JudgesBy (kept_refusals schema.now rows said.now.code parent key.now below.now) result) }
     ensures looks { IsJudgement result → TellsSame (R.seen into.old) (R.seen into.new) }
     ensures faults { Fails (IsErrOf result row.Failed) (R.seen into.old).faults (R.seen into.new).faults (R.seen into.new).live }
@@ -149,18 +108,41 @@ fn judge<R: RowTaker>(
     }
 }
 
-/// The sequence field of a row; empty where its type has none.
-fn key_of(alloc: Global, schema: &Schema, said: &Said) -> Result<Key, Memory>
+/// Judges what a record says as a row behind those that stand, and has it taken where it breaks no rule.
+fn place_row<R: RowTaker>(
+    alloc: Global,
+    schema: &Schema,
+    said: &Said,
+    path: &mut Path,
+    into: &mut R,
+) -> Result<(), RowFault>
+    requires live { IsTrue (R.seen into.old).live }
+    requires same { R.schema into.old ≡ schema.now }
+    requires stands { Stands schema.now (R.seen into.old) path.old }
     requires long { IsTrue (has_length schema.now.types (coming None said.now.code said.now.content)) }
-    ensures { IfOk result (λ key. key ≡ row_key schema.now.types (coming None said.now.code said.now.content)) }
+    ensures did { (at : Standing) → StandsAs schema.now (R.seen into.old) path.old at → RowPlaced schema.now at said.now.code said.now.content (R.seen into.new) path.new result }
+    ensures untold { MatchOption (R.seen into.old).rows (IsJudgement result → (R.seen into.new).rows ≡ None) (λ rows. ⊤) }
+    ensures faults { Fails (IsErrOf result row.Failed) (R.seen into.old).faults (R.seen into.new).faults (R.seen into.new).live }
+    ensures schema { R.schema into.new ≡ R.schema into.old }
+    ensures steady { R.steady into.old into.new }
 {
-    let t = &schema.types.as_slice()[said.code as usize - 1];
-    match &t.key {
-        Some(field) => {
-            let at = field.start as usize - 1;
-            Key::from_slice(alloc, &said.content.as_slice()[at..at + field.bytes as usize])
+    schemas_are_kept();
+    let below = path.climb(parent_code(schema, said.code));
+    let key = Key::from_slice(alloc, key_of(schema, said.code, said.content.as_slice()))?;
+    let parent = path.name();
+    if let Err(why) = judge(schema, said, parent, &key, &below, into) {
+        return Err(why);
+    }
+    match into.take(parent, said.code, &said.content) {
+        Ok(name) => {
+            path.push(Level {
+                code: said.code,
+                name,
+                key,
+            })?;
+            Ok(())
         }
-        None => Ok(Key::new(alloc)),
+        Err(why) => Err(RowFault::from(why)),
     }
 }
 
@@ -176,21 +158,13 @@ pub(crate) fn load_row<R: RowTaker>(
     requires same { R.schema into.old ≡ schema.now }
     requires stands { Stands schema.now (R.seen into.old) path.old }
     ensures did { (at : Standing) → StandsAs schema.now (R.seen into.old) path.old at → RowDid schema.now at (fields_of fields.now) (R.seen into.new) path.new result }
-    ensures untold { MatchOption (R.seen into.old).rows ((R.seen into.new).rows ≡ None) (λ rows. ⊤) }
+    ensures untold { MatchOption (R.seen into.old).rows (IsJudgement result → (R.seen into.new).rows ≡ None) (λ rows. ⊤) }
     ensures faults { Fails (IsErrOf result row.Failed) (R.seen into.old).faults (R.seen into.new).faults (R.seen into.new).live }
     ensures schema { R.schema into.new ≡ R.schema into.old }
     ensures steady { R.steady into.old into.new }
 {
-    let said = row_said(alloc, schema, fields)?;
-    let below = path.climb(schema.types.as_slice()[said.code as usize - 1].parent);
-    let key = key_of(alloc, schema, &said)?;
-    let parent = path.name();
-    judge(schema, &said, parent, &key, &below, into)?;
-    let name = into.take(parent, said.code, &said.content)?;
-    path.push(Level {
-        code: said.code,
-        name,
-        key,
-    })?;
-    Ok(())
+    match row_said(alloc, schema, fields) {
+        Ok(said) => place_row(alloc, schema, &said, path, into),
+        Err(why) => Err(why),
+    }
 }

@@ -1,15 +1,17 @@
 // What a record of a text says by itself.
-ghost use Rattle.std.specs.Prelude.{◌≡◌, ◌==◌, ◌+◌, ◌≤◌, ℕ, List, [], ◌∷◌, length, not, IfOk, IfSome, IfNone, MatchOption, Some, None, option_map, position};
-ghost use Rattle.std.specs.List.{list_all};
+ghost use Rattle.std.specs.Prelude.{◌≡◌, ◌+◌, ◌-◌, ◌<◌, ◌≤◌, ◌++◌, length, replicate, None, IfOk, IfSome, IsTrue, option_map, option_and_then, position};
 ghost use Rattle.std.specs.Str.{bytes_eq};
 ghost use Rattle.csv.specs.Records.{fields_of};
-ghost use Rattle.hal_base.specs.Bytes.{is_printable};
-ghost use Rattle.hal_loader.specs.Saying.{three_of, SaysRecord};
-ghost use Rattle.hal_loader.specs.Text.{code_named, content_of, text_content, hex_content};
+ghost use Rattle.hal_schema.specs.Forest.{has_length};
+ghost use Rattle.hal_schema.specs.SegType.{type_of};
+ghost use Rattle.hal_loader.specs.Placing.{coming};
+ghost use Rattle.hal_loader.specs.Saying.{SaysRecord};
+ghost use Rattle.hal_loader.specs.Text.{code_named, content_of, field_of, name_said, text_content, hex_content};
 
 use crate::fault::RowFault;
+use crate::twins::type_of;
 use csv::ByteRecord;
-use hal_base::{Bytes, List, Memory, Name8, are_printable};
+use hal_base::{Bytes, Memory, Name8, are_printable};
 use hal_schema::{Schema, SegType};
 use std::alloc::Global;
 
@@ -20,40 +22,35 @@ pub(crate) struct Said {
     pub content: Bytes,
 }
 
-#[derive(Drop)]
-struct ThreeFields<'a> {
-    segment: &'a [u8],
-    form: &'a [u8],
-    value: &'a [u8],
-}
-
-pub(crate) fn row_said(alloc: Global, schema: &Schema, fields: &ByteRecord) -> Result<Said, RowFault>
-    ensures { SaysRecord schema.now.types (fields_of fields.now) result }
-{
-    let Some(three) = three_fields(fields) else {
-        return Err(RowFault::Broken(*b"F1"));
-    };
-    let Some(code) = code_named(schema.types.as_slice(), three.segment) else {
-        return Err(RowFault::Broken(*b"F2"));
-    };
-    let bytes = schema.types.as_slice()[code as usize - 1].bytes;
-    let Some(content) = content_of(alloc, bytes, three.form, three.value)? else {
-        return Err(RowFault::Broken(*b"F3"));
-    };
-    Ok(Said { code, content })
-}
-
-fn three_fields(fields: &ByteRecord) -> Option<ThreeFields<'_>>
-    ensures { option_map (λ f. f.segment.now ∷ f.form.now ∷ f.value.now ∷ []) result ≡ three_of (fields_of fields.now) }
+pub(crate) fn row_said(
+    alloc: Global,
+    schema: &Schema,
+    fields: &ByteRecord,
+) -> Result<Said, RowFault>
+    ensures says { SaysRecord schema.now.types (fields_of fields.now) result }
+    ensures long { IfOk result (λ said. IsTrue (has_length schema.now.types (coming None said.code said.content))) }
 {
     if fields.len() != 3 {
-        return None;
+        return Err(RowFault::Broken(*b"F1"));
     }
-    Some(ThreeFields {
-        segment: fields.get(0)?,
-        form: fields.get(1)?,
-        value: fields.get(2)?,
-    })
+    let Some(code) = code_named(schema.types.as_slice(), field(fields, 0)) else {
+        return Err(RowFault::Broken(*b"F2"));
+    };
+    match content_for(alloc, schema, code, field(fields, 1), field(fields, 2)) {
+        Ok(Some(content)) => Ok(Said { code, content }),
+        Ok(None) => Err(RowFault::Broken(*b"F3")),
+        Err(Memory) => Err(RowFault::Memory),
+    }
+}
+
+/// The field at a place, empty where there is none.
+fn field(fields: &ByteRecord, place: usize) -> &[u8]
+    ensures { result.now ≡ field_of place (fields_of fields.now) }
+{
+    match fields.get(place) {
+        Some(field) => field,
+        None => &[],
+    }
 }
 
 /// The code of the type that a segment's name is of.
@@ -61,30 +58,60 @@ fn code_named(types: &[SegType], segment: &[u8]) -> Option<u8>
     requires { length types.now ≤ 255 }
     ensures { result ≡ code_named types.now segment.now }
 {
-    let name = Name8::read(segment)?;
-    code_of(types, name)
+    match name_said(segment) {
+        Some(name) => code_of(types, name),
+        None => None,
+    }
+}
+
+fn name_said(segment: &[u8]) -> Option<Name8>
+    ensures { result ≡ name_said segment.now }
+{
+    Name8::read(segment)
 }
 
 fn code_of(types: &[SegType], name: Name8) -> Option<u8>
     requires { length types.now ≤ 255 }
     ensures { result ≡ option_map (λ place. place + 1) (position (λ t. bytes_eq t.name name) types.now) }
 {
+    match place_of(types, name) {
+        Some(place) => Some(place as u8 + 1),
+        None => None,
+    }
+}
+
+fn place_of(types: &[SegType], name: Name8) -> Option<usize>
+    ensures place { result ≡ position (λ t. bytes_eq t.name name) types.now }
+    ensures within { IfSome result (λ place. place < length types.now) }
+{
     for (place, t) in types.iter().enumerate() {
         if t.name == name {
-            return Some(place as u8 + 1);
+            return Some(place);
         }
     }
     None
 }
 
-/// The content that a form and a value say; none where they don't fit a type of so many bytes.
-fn content_of(
+/// The content that a form and a value say for a type; none where they don't fit it.
+fn content_for(
     alloc: Global,
-    bytes: u16,
+    schema: &Schema,
+    code: u8,
     form: &[u8],
     value: &[u8],
 ) -> Result<Option<Bytes>, Memory>
-    ensures { IfOk result (λ content. content ≡ content_of bytes form.now value.now) }
+    ensures content { IfOk result (λ c. c ≡ option_and_then (λ t. content_of t.bytes form.now value.now) (type_of schema.now.types code)) }
+    ensures long { IfOk result (λ c. IfSome c (λ content. IsTrue (has_length schema.now.types (coming None code content)))) }
+{
+    match type_of(schema, code) {
+        Some(t) => content_of(alloc, t.bytes, form, value),
+        None => Ok(None),
+    }
+}
+
+fn content_of(alloc: Global, bytes: u16, form: &[u8], value: &[u8]) -> Result<Option<Bytes>, Memory>
+    ensures content { IfOk result (λ content. content ≡ content_of bytes form.now value.now) }
+    ensures long { IfOk result (λ c. IfSome c (λ content. length content ≡ bytes)) }
 {
     match form {
         b"T" => text_content(alloc, bytes, value),
@@ -95,21 +122,33 @@ fn content_of(
 
 /// A value as text, padded with blanks.
 fn text_content(alloc: Global, bytes: u16, value: &[u8]) -> Result<Option<Bytes>, Memory>
-    ensures { IfOk result (λ content. content ≡ text_content bytes value.now) }
+    ensures content { IfOk result (λ content. content ≡ text_content bytes value.now) }
+    ensures long { IfOk result (λ c. IfSome c (λ content. length content ≡ bytes)) }
 {
     if !are_printable(value) || value.len() > bytes as usize {
         return Ok(None);
     }
-    let mut content = Bytes::from_slice(alloc, value)?;
-    for _ in value.len()..bytes as usize {
-        content.push(b' ')?;
+    match padded(alloc, bytes as usize, value) {
+        Ok(content) => Ok(Some(content)),
+        Err(Memory) => Err(Memory),
     }
-    Ok(Some(content))
+}
+
+fn padded(alloc: Global, bytes: usize, value: &[u8]) -> Result<Bytes, Memory>
+    requires { length value.now ≤ bytes }
+    ensures content { IfOk result (λ content. content ≡ value.now ++ replicate (bytes - length value.now) 32) }
+    ensures long { IfOk result (λ content. length content ≡ bytes) }
+{
+    let blanks = vec![in alloc; b' '; bytes - value.len()]?;
+    let mut content = Bytes::from_slice(alloc, value)?;
+    content.append(&blanks)?;
+    Ok(content)
 }
 
 /// A value as hexadecimal digits.
 fn hex_content(alloc: Global, bytes: u16, value: &[u8]) -> Result<Option<Bytes>, Memory>
-    ensures { IfOk result (λ content. content ≡ hex_content bytes value.now) }
+    ensures content { IfOk result (λ content. content ≡ hex_content bytes value.now) }
+    ensures long { IfOk result (λ c. IfSome c (λ content. length content ≡ bytes)) }
 {
     let mut content = vec![in alloc; 0; bytes as usize]?;
     match hex::decode_to_slice(value, content.as_mut_slice()) {
