@@ -1,0 +1,9 @@
+pub mod Climbs
+pub mod Comings
+pub mod Judgements
+pub mod KeyOrder
+pub mod Lists
+pub mod Loadings
+pub mod Newest
+pub mod Placings
+pub mod Readings

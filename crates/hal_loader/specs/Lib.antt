@@ -1,0 +1,10 @@
+pub mod Carrying
+pub mod Ending
+pub mod Judging
+pub mod Loading
+pub mod Placing
+pub mod Refusals
+pub mod Saying
+pub mod Taker
+pub mod Text
+pub mod Unloading
