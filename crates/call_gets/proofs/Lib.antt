@@ -1,1 +1,13 @@
+mod Asking
 mod Climbs
+mod Deciding
+mod Finding
+mod Judging
+mod Listing
+mod Looking
+mod Moving
+mod Routing
+mod Showing
+mod Skipping
+mod Stepping
+mod Twins

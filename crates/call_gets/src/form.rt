@@ -1,7 +1,9 @@
 // The form of SSAs.
-ghost use Rattle.std.specs.Prelude.{◌≡◌, is_none};
+ghost use Rattle.std.specs.Prelude.{◌≡◌, is_none, None};
+ghost use Rattle.std.specs.List.{last_or};
+ghost use Rattle.std.specs.Option.{option_copied};
 ghost use Rattle.dli_calls.specs.Refusals.{has_odd_code, has_odd_operator, is_bare};
-ghost use Rattle.dli_calls.specs.Ssas.{asks_data, fitted, operator_of};
+ghost use Rattle.dli_calls.specs.Ssas.{asks_data, asks_last, fitted, operator_of};
 
 use call_text::{Clause, Ssa, Value};
 
@@ -29,6 +31,13 @@ pub fn asks_data(ssa: &Ssa) -> bool
     ssa.codes.as_slice().iter().any(|code| *code == b'D')
 }
 
+/// Command code L: the last twin.
+pub fn asks_last(ssa: &Ssa) -> bool
+    ensures { result ≡ asks_last ssa.now }
+{
+    ssa.codes.as_slice().iter().any(|code| *code == b'L')
+}
+
 /// A clause whose operator is none of the six as they are printed (IMS: relational operators).
 pub fn has_odd_operator(ssa: &Ssa) -> bool
     ensures { result ≡ has_odd_operator ssa.now }
@@ -51,11 +60,21 @@ fn is_odd_operator(op: &[u8]) -> bool
 }
 
 /// A value that doesn't fit so many bytes: a longer text, or a hex value of another length.
-pub fn is_unfit(value: &Value, bytes: u16) -> bool
+pub fn is_unfit(value: &Value, bytes: usize) -> bool
     ensures { result ≡ is_none (fitted bytes value.now) }
 {
     match value {
-        Value::Text(text) => text.len() > bytes as usize,
-        Value::Hex(text) => text.len() != bytes as usize,
+        Value::Text(text) => text.len() > bytes,
+        Value::Hex(text) => text.len() != bytes,
     }
+}
+
+pub(crate) fn last_of(ssas: &[Ssa]) -> Option<&Ssa>
+    ensures { option_copied result ≡ last_or None ssas.now }
+{
+    let mut last = None;
+    for ssa in ssas {
+        last = Some(ssa);
+    }
+    last
 }

@@ -4,17 +4,36 @@
 //! - `form`: the form of a call's SSAs and values;
 //! - `options`: what a session's processing options allow;
 //! - `path`: which types are below one another;
-//! - `names`: what names, codes and a session's index stand for in a schema.
+//! - `names`: what names, codes and a session's index stand for in a schema;
+//! - `subjects`: what clauses speak of; `refusals`: the first refusal by text and session;
+//! - `clauses`: which elements make clauses true; `judged`: which meet a list of SSAs; `scan`: the first that does;
+//! - `route`: the path to a place; `gets`: what GU and GN find, and `high`: whether they ask above every high key; `answer`:
+//!   their decision.
+//!
+//! `specs/Scan.antt` has what a scan finds.
 #![tactic(auto)]
 
+mod answer;
+mod clauses;
 mod form;
 mod functions;
+mod gets;
+mod high;
+mod judged;
 mod names;
 mod options;
 mod path;
+mod refusals;
+mod route;
+mod scan;
+mod subjects;
 
-pub use form::{asks_data, has_odd_code, has_odd_operator, is_bare, is_unfit};
-pub use functions::{is_delete, is_get, is_insert, is_replace, is_within_parent};
+pub use answer::decide_get;
+pub use form::{asks_data, asks_last, has_odd_code, has_odd_operator, is_bare, is_unfit};
+pub use functions::{
+    is_delete, is_get, is_hold, is_insert, is_next, is_replace, is_unique, is_within_parent,
+};
 pub use names::{code_named, index_of, is_parent_code, parent_code};
 pub use options::is_not_allowed;
 pub use path::{is_below_type, is_in_subtree};
+pub use refusals::text_refusal;

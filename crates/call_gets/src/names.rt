@@ -30,7 +30,8 @@ fn place_named(types: &[SegType], name: Name8) -> Option<usize>
     None
 }
 
-fn type_of(schema: &Schema, code: u8) -> Option<&SegType>
+/// The type of a code.
+pub(crate) fn type_of(schema: &Schema, code: u8) -> Option<&SegType>
     ensures { option_copied result ≡ type_of schema.now.types code }
 {
     if code == 0 {

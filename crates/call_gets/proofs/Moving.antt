@@ -1,0 +1,109 @@
+-- One step of a scan, and many.
+use Rattle.std.proofs.Common.{◌≡◌, ℕ, ◌<◌, ◌≤◌, Bool, true, false, cond, ◌&&◌, List, [], ◌∷◌, ◌++◌, Option, None, Some, refl, sym, ap, subst, ◌∙◌, arith}
+use Rattle.std.specs.Prelude.{nat_le, nat_lt, filter, slice_get, All, IfSome}
+use Rattle.std.specs.List.{list_all}
+use Rattle.std.specs.Option.{option_map, option_map_or}
+use Rattle.std.proofs.lemmas.Bool.{and_from, ltb-true, lt-ltb, le-leb, le-ltb}
+use Rattle.std.proofs.lemmas.List.{append-nil}
+use Rattle.std.proofs.lemmas.List.Elements.{filter-append, All-filter, All-push}
+use Rattle.std.proofs.lemmas.List.Folds.{list_all-append}
+use Rattle.hal_schema.specs.declared.schema.Schema.{Schema}
+use Rattle.hal_schema.specs.Paths.{path_with, with_paths}
+use Rattle.call_text.specs.declared.line.Ssa.{Ssa}
+use Rattle.position_state.specs.declared.spot.Spot.{Spot}
+use Rattle.position_state.specs.View.{behind}
+use Rattle.position_state.specs.Looks.{past, first_behind}
+use Rattle.dli_calls.specs.Meets.{meets}
+use Rattle.dli_calls.specs.Gets.{OnPath}
+use Rattle.call_gets.specs.declared.scan.Step.{Step}
+use Rattle.call_gets.specs.declared.scan.Step.TheVariants.{Ends, GoesOn}
+use Rattle.call_gets.specs.Scan.{AreFound, IsFound, IsClosed, IsStep, from_on, is_inside, first_inside, met_from}
+use Rattle.call_gets.proofs.Stepping.{Differ, ends_behind, next_of, passed, Passed}
+use Rattle.call_gets.proofs.Skipping.{level, kept, kept_low, kept_none, kept_kept, kept_is_low, outside, meets_here, goes_below, skip}
+
+-- what is left to be found is what there was to be found
+pub record Moved (schema : Schema) (view : List Spot) (ssas : List Ssa) (top : Option ℕ) (path : List Spot) (first : Option Spot) (now : List Spot) (next : Option Spot) : Type 0 where
+  pub same : met_from schema view ssas top path first ≡ met_from schema view ssas top now next
+  pub found : AreFound view now next
+
+pub moved_none : (schema : Schema) (view : List Spot) (ssas : List Ssa) (top : Option ℕ) (path : List Spot) (first : Option Spot) (now : List Spot) (next : Option Spot) → Moved schema view ssas top path first now next
+    → next ≡ None → None ≡ met_from schema view ssas top path first
+moved_none schema view ssas top path first now next m e = sym (m.same ∙ ap (met_from schema view ssas top now) e)
+
+pub moved_out : (schema : Schema) (view : List Spot) (ssas : List Ssa) (top : Option ℕ) (path : List Spot) (first : Option Spot) (now : List Spot) (next : Option Spot) (s : Spot) → Moved schema view ssas top path first now next
+    → next ≡ Some s → is_inside top s ≡ false → None ≡ met_from schema view ssas top path first
+moved_out schema view ssas top path first now next s m e h =
+    sym (m.same ∙ ap (met_from schema view ssas top now) e ∙ outside top (meets schema None view ssas) view now s h)
+
+pub moved_found : (schema : Schema) (view : List Spot) (ssas : List Ssa) (top : Option ℕ) (path : List Spot) (first : Option Spot) (now : List Spot) (next : Option Spot) (s : Spot) → Moved schema view ssas top path first now next
+    → next ≡ Some s → AreFound view now (Some s)
+moved_found schema view ssas top path first now next s m e = record { along = m.found.along; ahead = subst (λ (o : Option Spot). IfSome o (IsFound view)) e m.found.ahead }
+
+pub moved_met : (schema : Schema) (view : List Spot) (ssas : List Ssa) (top : Option ℕ) (path : List Spot) (first : Option Spot) (now : List Spot) (next : Option Spot) (s met : Spot) (above : List Spot) → Moved schema view ssas top path first now next
+    → next ≡ Some s → IsStep schema view ssas top (met_from schema view ssas top now (Some s)) above (Ends met) → Some (above ++ met ∷ [], met) ≡ met_from schema view ssas top path first
+moved_met schema view ssas top path first now next s met above m e h = sym (m.same ∙ ap (met_from schema view ssas top now) e ∙ h)
+
+pub moved_on : (schema : Schema) (view : List Spot) (ssas : List Ssa) (top : Option ℕ) (path : List Spot) (first : Option Spot) (now : List Spot) (next : Option Spot) (s : Spot) (above : List Spot) (other : Option Spot)
+    → Moved schema view ssas top path first now next
+    → next ≡ Some s → IsStep schema view ssas top (met_from schema view ssas top now (Some s)) above (GoesOn other) → Moved schema view ssas top path first above other
+moved_on schema view ssas top path first now next s above other m e h = record { same = m.same ∙ ap (met_from schema view ssas top now) e ∙ h.0; found = h.1 }
+
+-- ---- one step
+
+path_low : (s : Spot) (old : List Spot) → list_all (λ x. nat_le x.level s.level) (path_with level old s) ≡ true
+path_low s old =
+    list_all-append (λ (y : Spot). nat_le y.level s.level) (kept s.level old) (s ∷ [])
+    ∙ and_from (list_all (λ (y : Spot). nat_le y.level s.level) (kept s.level old)) (nat_le s.level s.level && true) (kept_is_low s.level old) (and_from (nat_le s.level s.level) true (le-leb s.level s.level (omega arith)) refl)
+
+same_above : (s : Spot) (old : List Spot) (l : ℕ) → l ≤ s.level → kept l (path_with level old s) ≡ kept l (kept s.level old)
+same_above s old l le =
+    filter-append (λ (y : Spot). nat_lt y.level l) (kept s.level old) (s ∷ [])
+    ∙ ap (λ b. kept l (kept s.level old) ++ cond b (s ∷ []) []) (le-ltb s.level l le)
+    ∙ append-nil (kept l (kept s.level old))
+
+deeper_inside : (top : Option ℕ) (s x : Spot) → is_inside top s ≡ true → s.level < x.level → is_inside top x ≡ true
+deeper_inside None s x h lt = refl
+deeper_inside (Some t) s x h lt = lt-ltb t x.level (omega (arith, ltb-true t s.level h, lt))
+
+pub step_meets : (schema : Schema) (view : List Spot) (ssas : List Ssa) (top : Option ℕ) (old above : List Spot) (s : Spot) → is_inside top s ≡ true → above ≡ kept s.level old
+    → meets schema None view ssas (above ++ s ∷ [], s) ≡ true → IsStep schema view ssas top (met_from schema view ssas top old (Some s)) above (Ends s)
+step_meets schema view ssas top old above s inside e h =
+    meets_here top (meets schema None view ssas) view old s inside (ap (λ (ys : List Spot). meets schema None view ssas (ys ++ s ∷ [], s)) (sym e) ∙ h)
+    ∙ ap (λ (ys : List Spot). Some (ys ++ s ∷ [], s)) (sym e)
+
+pub step_open : (schema : Schema) (view : List Spot) (ssas : List Ssa) (top : Option ℕ) (old above now : List Spot) (s : Spot) (next : Option Spot) → Differ view → is_inside top s ≡ true → above ≡ kept s.level old
+    → AreFound view old (Some s) → meets schema None view ssas (above ++ s ∷ [], s) ≡ false → next ≡ first_behind s.at view → now ≡ above ++ s ∷ []
+    → IsStep schema view ssas top (met_from schema view ssas top old (Some s)) now (GoesOn next)
+step_open schema view ssas top old above now s next d inside e f h n p =
+    let q = next_of view (behind s.at view) d (ends_behind view s d f.ahead) in
+    let test : OnPath → Bool = meets schema None view ssas in
+    let path : path_with level old s ≡ now = ap (λ (ys : List Spot). ys ++ s ∷ []) (sym e) ∙ sym p in (
+      goes_below top test view old s inside (ap (λ (ys : List Spot). meets schema None view ssas (ys ++ s ∷ [], s)) (sym e) ∙ h)
+          ∙ ap (λ (ys : List Spot). first_inside top test (with_paths level (path_with level old s) ys)) q.is
+          ∙ ap (λ (ys : List Spot). first_inside top test (with_paths level ys (from_on view (slice_get (behind s.at view) 0)))) path
+          ∙ ap (λ (o : Option Spot). first_inside top test (with_paths level now (from_on view o))) (sym n),
+      record {
+        along = subst (All (IsFound view)) path (All-push (IsFound view) (kept s.level old) s (All-filter (λ (y : Spot). nat_lt y.level s.level) (IsFound view) old f.along) f.ahead);
+        ahead = subst (λ (o : Option Spot). IfSome o (IsFound view)) (sym n) q.found;
+      },
+    )
+
+pub step_closed : (schema : Schema) (view : List Spot) (ssas : List Ssa) (top : Option ℕ) (old above : List Spot) (s : Spot) (next : Option Spot) → Differ view → is_inside top s ≡ true → above ≡ kept s.level old
+    → AreFound view old (Some s) → IsClosed schema view ssas (above ++ s ∷ []) → next ≡ past s view
+    → IsStep schema view ssas top (met_from schema view ssas top old (Some s)) above (GoesOn next)
+step_closed schema view ssas top old above s next d inside e f closed n =
+    let test : OnPath → Bool = meets schema None view ssas in
+    let p : List Spot = path_with level old s in
+    let shut : IsClosed schema view ssas p = subst (λ (ys : List Spot). IsClosed schema view ssas (ys ++ s ∷ [])) e closed in
+    let q : Passed view (behind s.at view) s.level next = subst (Passed view (behind s.at view) s.level) (sym n) (passed view (behind s.at view) s.level d (ends_behind view s d f.ahead)) in (
+      goes_below top test view old s inside (ap (λ (ys : List Spot). test (ys, s)) (sym (append-nil p)) ∙ shut [] s)
+          ∙ ap (λ (ys : List Spot). first_inside top test (with_paths level p ys)) q.is
+          ∙ ap (λ (ys : List Spot). first_inside top test (with_paths level ys (q.deep ++ from_on view next))) (sym (append-nil p))
+          ∙ skip top test view (kept s.level old) p s.level [] q.deep next
+          (λ l lt. kept_low s.level l p (path_low s old) lt) (same_above s old) refl q.deeper (λ x lt. deeper_inside top s x inside lt) shut q.high
+          ∙ ap (λ (ys : List Spot). first_inside top test (with_paths level ys (from_on view next))) (sym e),
+      record {
+        along = subst (All (IsFound view)) (sym e) (All-filter (λ (y : Spot). nat_lt y.level s.level) (IsFound view) old f.along);
+        ahead = q.found;
+      },
+    )

@@ -1,0 +1,59 @@
+use Rattle.std.proofs.Common.{◌≡◌, ℕ, List, Option, None, Some, refl, sym, ap, ◌∙◌}
+use Rattle.std.specs.Prelude.{codes, IfSome}
+use Rattle.std.specs.Option.{option_map}
+use Rattle.hal_schema.specs.declared.row.Row.{Row}
+use Rattle.dli_calls.specs.declared.decision.Decision.{Decision}
+use Rattle.dli_calls.specs.Decided.{decision_of, found}
+use Rattle.dli_calls.specs.Gets.{got}
+use Rattle.call_gets.specs.declared.scan.Met.{Met}
+use Rattle.call_gets.specs.Scan.{on_its_path}
+use Rattle.call_gets.proofs.Deciding.{Asked, only_get, decided_text, decided_content, decided_high, decided_none, decided_found}
+use Rattle.call_gets.proofs.Finding.{if_ok}
+use Rattle.call_gets.proofs.Looking.{where_told, told_at}
+use Rattle.call_gets.proofs.answer.decide_get.Goals as goal
+
+pub returns-in-Some-clause-decided : goal.returns-in-Some-clause-decided
+returns-in-Some-clause-decided g c =
+    where_told (g.W.Walk.seen c.args.walk.now).forest (λ (rows : List Row). (free : ℕ) → c.in_ok-refused.field-0 ≡ decision_of c.args.schema.now rows free c.args.session.now c.args.call.now)
+    (λ rows e free. decided_text c.args.schema.now rows free c.args.session.now c.args.call.now c.in-Some.status c.in_ok-refused.field-0 (sym c.text_refusal.ensures ∙ c.in-Some.is) c.in_ok-refused.ensures)
+
+pub returns-then-is_some-clause-decided : goal.returns-then-is_some-clause-decided
+returns-then-is_some-clause-decided g c =
+    where_told (g.W.Walk.seen c.args.walk.now).forest (λ (rows : List Row). (free : ℕ) → c.in_ok-refused-2.field-0 ≡ decision_of c.args.schema.now rows free c.args.session.now c.args.call.now)
+    (λ rows e free. decided_content c.args.schema.now rows free c.args.session.now c.args.call.now c.in_ok-refused-2.field-0
+    (record { only = only_get c.args.call.now c.requires.get; plain = c.requires.plain; text = sym c.text_refusal.ensures ∙ c.in_default.is })
+    (sym c.is_some.ensures ∙ c.if-is_some.true) c.in_ok-refused-2.ensures)
+
+pub returns-then-branch-clause-decided : goal.returns-then-branch-clause-decided
+returns-then-branch-clause-decided g c =
+    where_told (g.W.Walk.seen c.args.walk.now).forest (λ (rows : List Row). (free : ℕ) → c.in_ok-refused-3.field-0 ≡ decision_of c.args.schema.now rows free c.args.session.now c.args.call.now)
+    (λ rows e free. decided_high c.args.schema.now rows free c.args.session.now c.args.call.now c.in_ok-refused-3.field-0
+    (record { only = only_get c.args.call.now c.requires.get; plain = c.requires.plain; text = sym c.text_refusal.ensures ∙ c.in_default.is })
+    (sym c.is_some.ensures ∙ c.if-is_some.false) (sym c.in_ok-asks_for_high_root.ensures ∙ c.if-branch.true) c.in_ok-refused-3.ensures)
+
+pub returns-in_ok-refused-in-None-clause-decided : goal.returns-in_ok-refused-in-None-clause-decided
+returns-in_ok-refused-in-None-clause-decided g c =
+    let a = g.W.Walk.seen c.args.walk.now in
+    where_told a.forest (λ (rows : List Row). (free : ℕ) → c.in_ok-refused-in-None.field-0 ≡ decision_of c.args.schema.now rows free c.args.session.now c.args.call.now)
+    (λ rows e free. decided_none c.args.schema.now rows free c.args.session.now c.args.call.now c.status_of_none.result c.in_ok-refused-in-None.field-0
+    (record { only = only_get c.args.call.now c.requires.get; plain = c.requires.plain; text = sym c.text_refusal.ensures ∙ c.in_default.is })
+    (sym c.is_some.ensures ∙ c.if-is_some.false) (sym c.in_ok-asks_for_high_root.ensures ∙ c.if-branch.false)
+    (ap (λ (o : Option Met). option_map on_its_path o) (sym c.in-None.is) ∙ told_at a.forest rows (λ (r : List Row). option_map on_its_path c.in_ok-got.field-0 ≡ got c.args.schema.now r c.args.call.now c.args.session.now) e c.in_ok-got.ensures.got)
+    c.status_of_none.ensures c.in_ok-refused-in-None.ensures)
+
+pub returns-in-Some-2-clause-decided : goal.returns-in-Some-2-clause-decided
+returns-in-Some-2-clause-decided g c =
+    let a = g.W.Walk.seen c.args.walk.now in
+    let b = g.W.Walk.seen c.got.new.walk in
+    let schema = c.args.schema.now in
+    let session = c.args.session.now in
+    let call = c.args.call.now in
+    if_ok c.found.result (λ (d : Decision). IfSome b.forest (λ (rows : List Row). d ≡ found schema rows session call (on_its_path c.in-Some-2.met)))
+    (λ (d : Decision). IfSome a.forest (λ (rows : List Row). (free : ℕ) → d ≡ decision_of schema rows free session call))
+    (λ d h. where_told a.forest (λ (rows : List Row). (free : ℕ) → d ≡ decision_of schema rows free session call)
+    (λ rows e free. decided_found schema rows free session call (on_its_path c.in-Some-2.met) d
+    (record { only = only_get call c.requires.get; plain = c.requires.plain; text = sym c.text_refusal.ensures ∙ c.in_default.is })
+    (sym c.is_some.ensures ∙ c.if-is_some.false) (sym c.in_ok-asks_for_high_root.ensures ∙ c.if-branch.false)
+    (ap (λ (o : Option Met). option_map on_its_path o) (sym c.in-Some-2.is) ∙ told_at a.forest rows (λ (r : List Row). option_map on_its_path c.in_ok-got.field-0 ≡ got schema r call session) e c.in_ok-got.ensures.got)
+    (told_at b.forest rows (λ (r : List Row). d ≡ found schema r session call (on_its_path c.in-Some-2.met)) (c.got.ensures.looked.forest ∙ e) h)))
+    c.found.ensures.found

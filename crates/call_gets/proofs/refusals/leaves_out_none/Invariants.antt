@@ -1,0 +1,9 @@
+use Rattle.std.proofs.Common.{◌≡◌, drop}
+use Rattle.std.specs.List.{cons_option}
+use Rattle.hal_schema.specs.SegType.{is_parent_code}
+use Rattle.dli_calls.specs.Refusals.{each_next}
+use Rattle.call_gets.specs.Texts.{codes_in}
+use Rattle.call_gets.proofs.refusals.leaves_out_none.Given as goal
+
+abbrev pub invariant-loop-ssa : goal.invariant-loop-ssa
+invariant-loop-ssa l = each_next (is_parent_code l.schema.types) (codes_in l.schema l.ssas) ≡ each_next (is_parent_code l.schema.types) (cons_option l.above (codes_in l.schema (drop l.ssa-index l.ssas)))

@@ -1,0 +1,12 @@
+use Rattle.std.proofs.Common.{◌≡◌, ◌++◌}
+use Rattle.std.specs.Prelude.{All, IfSome, IsTrue}
+use Rattle.call_gets.specs.Scan.{LooksOn, IsFound, path_of, plain_view}
+use Rattle.call_gets.proofs.Routing.{Climbing}
+use Rattle.call_gets.proofs.route.path_to.Given as goal
+
+abbrev pub invariant-loop-step : goal.invariant-loop-step
+invariant-loop-step g l = record {
+  live : IsTrue (g.W.Walk.seen l.walk).live;
+  looked : LooksOn ⊥ (g.W.Walk.seen l.fn.walk) (g.W.Walk.seen l.walk);
+  climbs : IfSome (g.W.Walk.seen l.fn.walk).forest (λ rows. Climbing (plain_view (g.W.Walk.seen l.fn.walk).schema rows) l.at l.low l.path.items);
+}

@@ -1,0 +1,52 @@
+use Rattle.std.proofs.Common.{List, Option, Some, refl, sym, subst, ◌∙◌}
+use Rattle.std.proofs.lemmas.Result.{err_from_is_err_and}
+use Rattle.hal_schema.specs.declared.row.Row.{Row}
+use Rattle.position_state.specs.declared.walk.WalkFault.TheVariants.{Failed}
+use Rattle.call_gets.specs.declared.scan.Step.{Step}
+use Rattle.call_gets.specs.Scan.{IsStep, met_from, plain_view}
+use Rattle.call_gets.proofs.Looking.{on_none, on_then, on_as, ok_not_err, one_fault, where_told, told_at, told_after}
+use Rattle.call_gets.proofs.Moving.{Moved, moved_found, moved_on}
+use Rattle.call_gets.proofs.scan.first_met.Goals as goal
+
+pub loop-step-init : goal.loop-step-init
+loop-step-init g c =
+    let a = g.W.Walk.seen c.args.walk.now in
+    let schema = c.args.schema.now in
+    record {
+      live = c.requires.live;
+      looked = on_none a c.requires.live (λ never. never);
+      moved = where_told a.forest (λ (rows : List Row). Moved schema (plain_view schema rows) c.args.ssas.now c.args.top c.args.path.items c.args.first c.args.path.items c.args.first)
+          (λ rows e. record { same = refl; found = c.requires.shown rows e });
+    }
+
+pub move_on-requires-clause-shown : goal.move_on-requires-clause-shown
+move_on-requires-clause-shown g c = λ rows e.
+    let a = g.W.Walk.seen c.args.walk.now in
+    let schema = c.args.schema.now in
+    let i = c.loop-step.invariant in
+    moved_found schema (plain_view schema rows) c.args.ssas.now c.args.top c.args.path.items c.args.first c.loop-step.path.items c.loop-step.next c.in-Some.spot
+    (told_at a.forest rows (λ (r : List Row). Moved schema (plain_view schema r) c.args.ssas.now c.args.top c.args.path.items c.args.first c.loop-step.path.items c.loop-step.next) (sym i.looked.forest ∙ e) i.moved)
+    c.in-Some.is
+
+pub returns-in_err-spot-clause-looked : goal.returns-in_err-spot-clause-looked
+returns-in_err-spot-clause-looked g c =
+    let p = err_from_is_err_and c.from_residual.result c.from_residual.ensures.1 in
+    let q = one_fault c.move_on.result c.from_residual.result _ p.0 Failed c.in_err-spot.was p.1 p.2 in
+    on_as (on_then c.loop-step.invariant.looked c.move_on.ensures.looked) q.0 q.1
+
+pub loop-step-preserved : goal.loop-step-preserved
+loop-step-preserved g c =
+    let a = g.W.Walk.seen c.args.walk.now in
+    let b = g.W.Walk.seen c.loop-step.walk in
+    let schema = c.args.schema.now in
+    let i = c.loop-step.invariant in
+    record {
+      live = c.move_on.ensures.looked.faults.alive (λ is. ok_not_err c.move_on.result c.in_ok-spot.field-0 Failed c.in_ok-spot.was is);
+      looked = on_as (on_then i.looked c.move_on.ensures.looked) (λ is. ok_not_err c.move_on.result c.in_ok-spot.field-0 Failed c.in_ok-spot.was is) (λ never. absurd never);
+      moved = where_told a.forest (λ (rows : List Row). Moved schema (plain_view schema rows) c.args.ssas.now c.args.top c.args.path.items c.args.first c.move_on.new.path.items c.in-GoesOn.other)
+          (λ rows e. moved_on schema (plain_view schema rows) c.args.ssas.now c.args.top c.args.path.items c.args.first c.loop-step.path.items c.loop-step.next c.in-Some.spot c.move_on.new.path.items c.in-GoesOn.other
+          (told_at a.forest rows (λ (r : List Row). Moved schema (plain_view schema r) c.args.ssas.now c.args.top c.args.path.items c.args.first c.loop-step.path.items c.loop-step.next) e i.moved) c.in-Some.is
+          (subst (λ (s : Step). IsStep schema (plain_view schema rows) c.args.ssas.now c.args.top (met_from schema (plain_view schema rows) c.args.ssas.now c.args.top c.loop-step.path.items (Some c.in-Some.spot)) c.move_on.new.path.items s) c.in-GoesOn.is
+          (told_at a.forest rows (λ (r : List Row). IsStep schema (plain_view schema r) c.args.ssas.now c.args.top (met_from schema (plain_view schema r) c.args.ssas.now c.args.top c.loop-step.path.items (Some c.in-Some.spot)) c.move_on.new.path.items c.in_ok-spot.field-0) e
+          (told_after a b (λ (r : List Row). IsStep schema (plain_view schema r) c.args.ssas.now c.args.top (met_from schema (plain_view schema r) c.args.ssas.now c.args.top c.loop-step.path.items (Some c.in-Some.spot)) c.move_on.new.path.items c.in_ok-spot.field-0) i.looked.forest c.in_ok-spot.ensures.step))));
+    }

@@ -1,0 +1,60 @@
+// What a get finds in the view of its session.
+ghost use Rattle.std.specs.Prelude.{◌≡◌, ◌||◌, find, true, IfOk, IfSome, IsErrOf, IsTrue, None};
+ghost use Rattle.std.specs.Option.{ForSome, option_map};
+ghost use Rattle.position_state.specs.Lawful.{Stands};
+ghost use Rattle.position_state.specs.Looks.{stands_in};
+ghost use Rattle.dli_calls.specs.Gets.{got, is_next, is_unique, paths_behind};
+ghost use Rattle.dli_calls.specs.Meets.{meets, on_paths};
+ghost use Rattle.call_gets.specs.Scan.{IsGot, LooksOn, on_its_path};
+
+use crate::functions::is_unique;
+use crate::route::path_to;
+use crate::scan::{Met, first_met};
+use call_text::{Call, Ssa};
+use hal_schema::Schema;
+use position_state::{Anchor, Session, Walk, WalkFault};
+use std::alloc::Global;
+use view_laws::places_differ;
+
+/// The element that a GU or a GN finds, with its path: GU looks at the whole view, GN behind the position.
+pub(crate) fn got<W: Walk>(
+    alloc: Global,
+    schema: &Schema,
+    session: &Session,
+    call: &Call,
+    walk: &mut W,
+) -> Result<Option<Met>, WalkFault>
+    requires live { IsTrue (W.seen walk.old).live }
+    requires plain { session.now.index ≡ None }
+    requires get { (is_unique call.now || is_next call.now) ≡ true }
+    requires schema { (W.seen walk.old).schema ≡ schema.now }
+    requires stands { ForSome (W.seen walk.old).forest (λ rows. Stands schema.now rows session.now) }
+    ensures got { IfOk result (λ met. IfSome (W.seen walk.old).forest (λ rows. option_map on_its_path met ≡ got schema.now rows call.now session.now)) }
+    ensures looked { LooksOn (IsErrOf result WalkFault.Failed) (W.seen walk.old) (W.seen walk.new) }
+{
+    let ssas = call.ssas.as_slice();
+    if is_unique(call) {
+        return first_behind(alloc, walk, schema, ssas, &Anchor::Front);
+    }
+    first_behind(alloc, walk, schema, ssas, &session.anchor)
+}
+
+/// The first element behind a place that meets the SSAs.
+fn first_behind<W: Walk>(
+    alloc: Global,
+    walk: &mut W,
+    schema: &Schema,
+    ssas: &[Ssa],
+    at: &Anchor,
+) -> Result<Option<Met>, WalkFault>
+    requires live { IsTrue (W.seen walk.old).live }
+    requires schema { (W.seen walk.old).schema ≡ schema.now }
+    requires there { IsTrue (stands_in (W.seen walk.old) None at.now) }
+    ensures got { IfOk result (IsGot schema.now (W.seen walk.old) (λ view. find (meets schema.now None view ssas.now) (paths_behind at.now (on_paths view)))) }
+    ensures looked { LooksOn (IsErrOf result WalkFault.Failed) (W.seen walk.old) (W.seen walk.new) }
+{
+    places_differ();
+    let path = path_to(alloc, walk, at)?;
+    let first = walk.after(None, at)?;
+    first_met(walk, schema, ssas, None, path, first)
+}

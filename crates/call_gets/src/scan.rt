@@ -1,0 +1,110 @@
+// The first element of a view that meets a list of SSAs, found by looks.
+ghost use Rattle.std.specs.Prelude.{◌≡◌, ◌∷◌, ◌++◌, [], filter, nat_lt, true, IfOk, IfSome, OnOk, IsErrOf, IsTrue, None, Some};
+ghost use Rattle.std.specs.Option.{ForSome};
+ghost use Rattle.call_gets.specs.Scan.{AreShown, IsFirstMet, IsShown, IsVerdict, LooksOn, Steps, is_inside, plain_view};
+
+use crate::judged::{Verdict, judge};
+use call_text::Ssa;
+use hal_base::Memory;
+use hal_schema::Schema;
+use position_state::{Spot, Walk, WalkFault};
+use view_laws::places_differ;
+
+/// An element that meets a call's SSAs, and those above it on its path, the root first.
+#[derive(Debug, Drop)]
+pub(crate) struct Met {
+    pub(crate) above: Vec<Spot>,
+    pub(crate) spot: Spot,
+}
+
+/// What a scan does at an element: it ends with it, or goes on at another, if there is one.
+enum Step {
+    Ends(Spot),
+    GoesOn(Option<Spot>),
+}
+
+/// The first element that meets the SSAs, from this one on, which stands behind an element of this path. Where a level is
+/// given, the scan goes no further than what is deeper. It passes over all that is below an element that fails, so it
+/// keeps one path in memory and looks at nothing that can't meet.
+pub(crate) fn first_met<W: Walk>(
+    walk: &mut W,
+    schema: &Schema,
+    ssas: &[Ssa],
+    top: Option<u8>,
+    path: Vec<Spot>,
+    first: Option<Spot>,
+) -> Result<Option<Met>, WalkFault>
+    requires live { IsTrue (W.seen walk.old).live }
+    requires schema { (W.seen walk.old).schema ≡ schema.now }
+    requires shown { AreShown schema.now (W.seen walk.old) path.items first }
+    ensures met { IfOk result (IsFirstMet schema.now (W.seen walk.old) ssas.now top path.items first) }
+    ensures looked { LooksOn (IsErrOf result WalkFault.Failed) (W.seen walk.old) (W.seen walk.new) }
+{
+    let mut path = path;
+    let mut next = first;
+    for _step in 0..u64::MAX {
+        let Some(spot) = next else {
+            return Ok(None);
+        };
+        if !is_inside(top, &spot) {
+            return Ok(None);
+        }
+        match move_on(walk, schema, ssas, top, &mut path, spot)? {
+            Step::Ends(spot) => return Ok(Some(Met { above: path, spot })),
+            Step::GoesOn(other) => next = other,
+        }
+    }
+    Err(WalkFault::Memory)
+}
+
+fn is_inside(top: Option<u8>, spot: &Spot) -> bool
+    ensures { result ≡ is_inside top spot.now }
+{
+    match top {
+        None => true,
+        Some(level) => level < spot.level,
+    }
+}
+
+/// One step of a scan, which carries the path along.
+fn move_on<W: Walk>(
+    walk: &mut W,
+    schema: &Schema,
+    ssas: &[Ssa],
+    top: Option<u8>,
+    path: &mut Vec<Spot>,
+    spot: Spot,
+) -> Result<Step, WalkFault>
+    requires live { IsTrue (W.seen walk.old).live }
+    requires schema { (W.seen walk.old).schema ≡ schema.now }
+    requires shown { AreShown schema.now (W.seen walk.old) path.old.items (Some spot) }
+    requires inside { is_inside top spot ≡ true }
+    ensures step { IfOk result (Steps schema.now (W.seen walk.old) ssas.now top path.old.items spot path.new.items) }
+    ensures looked { LooksOn (IsErrOf result WalkFault.Failed) (W.seen walk.old) (W.seen walk.new) }
+{
+    places_differ();
+    leave(path, spot.level);
+    match judge(walk, schema, ssas, path, &spot)? {
+        Verdict::Meets => Ok(Step::Ends(spot)),
+        Verdict::Closed => Ok(Step::GoesOn(walk.past(None, &spot)?)),
+        Verdict::Open => {
+            let next = walk.after(None, &spot.at)?;
+            join(path, spot)?;
+            Ok(Step::GoesOn(next))
+        }
+    }
+}
+
+/// Keeps what of a path is above a level.
+fn leave(path: &mut Vec<Spot>, level: u8)
+    ensures { path.new.items ≡ filter (λ above. nat_lt above.level level) path.old.items }
+{
+    path.retain(|above| above.level < level);
+}
+
+fn join(path: &mut Vec<Spot>, spot: Spot) -> Result<(), Memory>
+    ensures { OnOk result (path.new.items ≡ path.old.items ++ spot ∷ []) }
+{
+    path.push(spot)?;
+    Ok(())
+}
