@@ -25,9 +25,11 @@ impl Psindex {
         requires live { IsTrue (H.seen shelf.old).live }
         requires opened { IsOpened list.old.rows (H.seen shelf.old) }
         requires anchored { HasAnchors part.now.anchors state.now.cursor }
-        ensures target { IfOk result (Resolves list.old.rows.set (H.seen shelf.old) (generation_of part.now state.now entry.now.root) entry.now.eps self.now.target) }
+        ensures target { IfOk result (Resolves list.old.rows.set (H.seen shelf.old) (generation_of part.now state.now entry.now.root)
+            entry.now.eps self.now.target) }
         ensures kept { (list.new ≡ list.old) × IsOpened list.new.rows (H.seen shelf.new) }
-        ensures leaves { OnlyReads (looks_of (generation_of part.now state.now entry.now.root) entry.now.eps) (H.steady shelf.old shelf.new) (IsErrOf result PageFault.Failed) (H.seen shelf.old) (H.seen shelf.new) }
+        ensures leaves { OnlyReads (looks_of (generation_of part.now state.now entry.now.root) entry.now.eps)
+            (H.steady shelf.old shelf.new) (IsErrOf result PageFault.Failed) (H.seen shelf.old) (H.seen shelf.new) }
         ensures room { IsErrOf result PageFault.NoRoom → ⊥ }
     {
         let now = generation(part, state, entry.root.as_slice());
