@@ -1,11 +1,12 @@
 -- Numbers in bytes: what was read at the front of bytes is written as they stand.
-use Rattle.std.proofs.Common.{arith, refl, sym, ap, subst, ⊎_elim, ◌≡◌, ◌∙◌, ℕ, ◌+◌, ◌<◌, ◌≤◌, List, ◌++◌, All, length, take, drop, get_or}
+use Rattle.std.proofs.Common.{arith, refl, sym, ap, subst, ⊎_elim, ◌≡◌, ◌∙◌, ℕ, ◌+◌, ◌^◌, ◌<◌, ◌≤◌, List, [], ◌∷◌, ◌++◌, All, length, take, drop, get_or}
 use Rattle.std.proofs.lemmas.Bool.{cases_lt}
 use Rattle.std.proofs.lemmas.List.{take-append-drop, drop-drop, get_or_past, take_all, length-take-le, length-drop}
 use Rattle.std.proofs.lemmas.List.Elements.{All-take, All-drop, All-get_or}
-use Rattle.std.proofs.lemmas.Nat.{be_bytes_2, be_bytes_4}
+use Rattle.std.proofs.lemmas.Nat.{be_bytes_2, be_bytes_4, from_be_bytes-to_be_bytes_2, from_be_bytes-to_be_bytes_4}
 use Rattle.std.specs.Int.{w16, w32, to_be_bytes, from_be_bytes}
-use Rattle.eps_pointers.specs.Layout.{name_bytes, name_in, eps_bytes, eps_in, ile_bytes, ile_in}
+use Rattle.keyed_sets.specs.Map.{written_over}
+use Rattle.eps_pointers.specs.Layout.{name_bytes, name_in, eps_bytes, eps_in, home_bytes, ile_bytes, ile_in}
 
 abbrev pub IsByte : ℕ → Type 0
 IsByte byte = byte < 256
@@ -52,3 +53,27 @@ eps_back bytes long h = after2 0 bytes _ h (omega (arith, long))
 
 pub ile_back : (bytes : List ℕ) → length bytes ≡ 6 → All IsByte bytes → ile_bytes (ile_in bytes) ≡ bytes
 ile_back bytes long h = after4 0 bytes _ h (omega (arith, long)) (last2 4 bytes h long)
+
+-- eight bytes at the front, and the rest
+split : (P : List ℕ → Type 0) → ((a b c d e f g h : ℕ) (rest : List ℕ) → P (a ∷ b ∷ c ∷ d ∷ e ∷ f ∷ g ∷ h ∷ rest)) → (bytes : List ℕ) → 8 ≤ length bytes → P bytes
+split P each [] long = absurd (omega (arith, long))
+split P each (a ∷ []) long = absurd (omega (arith, long))
+split P each (a ∷ b ∷ []) long = absurd (omega (arith, long))
+split P each (a ∷ b ∷ c ∷ []) long = absurd (omega (arith, long))
+split P each (a ∷ b ∷ c ∷ d ∷ []) long = absurd (omega (arith, long))
+split P each (a ∷ b ∷ c ∷ d ∷ e ∷ []) long = absurd (omega (arith, long))
+split P each (a ∷ b ∷ c ∷ d ∷ e ∷ f ∷ []) long = absurd (omega (arith, long))
+split P each (a ∷ b ∷ c ∷ d ∷ e ∷ f ∷ g ∷ []) long = absurd (omega (arith, long))
+split P each (a ∷ b ∷ c ∷ d ∷ e ∷ f ∷ g ∷ h ∷ rest) long = each a b c d e f g h rest
+
+-- number and address over those of a pointer
+pub healed : (bytes : List ℕ) (number addr : ℕ) → 16 ≤ length bytes → number < 2 ^ 16 → addr < 2 ^ 32
+    → eps_in (take 16 (written_over 2 (home_bytes number addr) bytes)) ≡ record (eps_in (take 16 bytes)) { number = number; addr = addr }
+healed bytes number addr long number_fits addr_fits = split (λ (l : List ℕ). eps_in (take 16 (written_over 2 (home_bytes number addr) l)) ≡ record (eps_in (take 16 l)) { number = number; addr = addr })
+    (λ a b c d e f g h rest.
+    let one = from_be_bytes-to_be_bytes_2 number number_fits in
+    let two = from_be_bytes-to_be_bytes_4 addr addr_fits in
+    cc) bytes (omega (arith, long))
+
+pub behind : (bytes : List ℕ) (number addr : ℕ) → 16 ≤ length bytes → drop 16 (written_over 2 (home_bytes number addr) bytes) ≡ drop 16 bytes
+behind bytes number addr long = split (λ (l : List ℕ). drop 16 (written_over 2 (home_bytes number addr) l) ≡ drop 16 l) (λ a b c d e f g h rest. refl) bytes (omega (arith, long))

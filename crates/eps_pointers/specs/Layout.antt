@@ -13,6 +13,10 @@ name_bytes name = to_be_bytes w32 name.addr ++ to_be_bytes w16 name.part ++ to_b
 abbrev pub eps_bytes : Eps → List ℕ
 eps_bytes eps = to_be_bytes w16 eps.part ++ to_be_bytes w16 eps.number ++ to_be_bytes w32 eps.addr ++ name_bytes eps.ilk
 
+-- the bytes of a pointer's number and address, which stand from the third on
+abbrev pub home_bytes : ℕ → ℕ → List ℕ
+home_bytes number addr = to_be_bytes w16 number ++ to_be_bytes w32 addr
+
 abbrev pub ile_bytes : Ile → List ℕ
 ile_bytes ile = to_be_bytes w32 ile.addr ++ to_be_bytes w16 ile.number
 

@@ -1,2 +1,3 @@
 pub mod Layout
 pub mod Listed
+pub mod Target

@@ -1,6 +1,6 @@
 // Extended pointers and entries of the indirect list, as the bytes of rows.
 ghost use Rattle.std.specs.Prelude.{◌≡◌, ◌≤◌, length};
-ghost use Rattle.eps_pointers.specs.Layout.{name_bytes, name_in, eps_bytes, eps_in, ile_bytes, ile_in, list_key};
+ghost use Rattle.eps_pointers.specs.Layout.{name_bytes, name_in, eps_bytes, eps_in, home_bytes, ile_bytes, ile_in, list_key};
 
 use hal_base::{Ilk, get16, get32, put16, put32};
 
@@ -53,6 +53,16 @@ pub fn write_eps(e: Eps) -> [u8; 16]
     put16(&mut bytes, 2, e.number);
     put32(&mut bytes, 4, e.addr);
     bytes[8..].copy_from_slice(&write_name(e.ilk));
+    bytes
+}
+
+/// The bytes that stand at 2 in those of a pointer: number, address.
+pub fn write_home(number: u16, addr: u32) -> [u8; 6]
+    ensures { result ≡ home_bytes number addr }
+{
+    let mut bytes = [0; 6];
+    put16(&mut bytes, 0, number);
+    put32(&mut bytes, 2, addr);
     bytes
 }
 

@@ -64,6 +64,32 @@ impl<H: Shelf + Drop> OpenSet<H> {
         Ok(row.map(|row| (key_in(row.0.as_slice()), number_of(row.1.as_slice()))))
     }
 
+    /// Puts a row in unless another has its key, and says whether it did.
+    pub fn insert(&mut self, key: u16, number: u32) -> Result<bool, PageFault>
+        requires live { IsTrue (H.seen self.old.shelf).live }
+        requires takes { IsTrue ((H.seen self.old.shelf).takes self.old.set.set 2) }
+    {
+        let mut body = [b' '; BODY];
+        body[..4].copy_from_slice(&number.to_be_bytes());
+        self.set.insert(&mut self.shelf, &key.to_be_bytes(), &body)
+    }
+
+    /// Writes the lower two bytes of a number over those of the number beside a key.
+    pub fn overwrite(&mut self, key: u16, low: u16) -> Result<bool, PageFault>
+        requires { IsTrue (H.seen self.old.shelf).live }
+    {
+        self.set
+            .overwrite(&mut self.shelf, &key.to_be_bytes(), 2, &low.to_be_bytes())
+    }
+
+    /// The set of the rows that stand on the shelf now.
+    pub fn reopened(self, alloc: Global) -> Result<OpenSet<H>, StoreFault>
+        requires { IsTrue (H.seen self.shelf).live }
+    {
+        let OpenSet { shelf, set: _ } = self;
+        OpenSet::new(alloc, shelf)
+    }
+
     pub fn remove(&mut self, key: u16) -> Result<bool, PageFault>
         requires { IsTrue (H.seen self.old.shelf).live }
     {

@@ -3,6 +3,7 @@
 //! - `kept.rt`: a set that stays open from call to call;
 //! - `puts.rt`: rows put in and taken away;
 //! - `sets.rt`: pages that a test lays out;
+//! - `splits.rt`: rows put in where memory may be wanted, the set opened anew afterwards;
 //! - `tables.rt`: a set kept open, beside std's map.
 #![tactic(auto)]
 
@@ -27,5 +28,7 @@ pub use kept::OpenSet;
 mod puts;
 #[cfg(test)]
 mod sets;
+#[cfg(test)]
+mod splits;
 #[cfg(test)]
 mod tables;

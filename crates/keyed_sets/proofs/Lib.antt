@@ -29,7 +29,9 @@ pub mod Adding
 pub mod Spares
 pub mod Begins
 pub mod Splits
+pub mod Found
 pub mod Homes
+pub mod Joined
 pub mod Fits
 pub mod Halves
 pub mod Shares

@@ -4,7 +4,6 @@ use Rattle.std.specs.Prelude.{slice_get}
 use Rattle.std.specs.List.{AllByRecursion}
 use Rattle.std.proofs.lemmas.List.{length-append, length-take-le, length-drop, drop-drop, take_at, drop_at, take-append-drop}
 use Rattle.std.proofs.Math.Nat.{mul-le-mul_left, mul-le-mul_right}
-use Rattle.keyed_sets.specs.Map.{RowsRise}
 use Rattle.keyed_sets.specs.declared.row.RowShape.{RowShape}
 use Rattle.std.specs.Option.{option_map}
 use Rattle.keyed_sets.specs.Layout.{Row, row_length, HasShape, spelled_row, spelled, row_of, rows_from, rows_in, count_of, end_of, HasPlace}

@@ -1,5 +1,5 @@
 -- A set's rows as a map from key to body: a list whose keys rise, as the records of a VSAM key-sequenced data set stand.
-use Rattle.std.specs.Prelude.{ℕ, if◌then◌else◌, List, [], ◌∷◌, Option, None, Some, IsTrue, Contains, ⊤}
+use Rattle.std.specs.Prelude.{ℕ, ◌+◌, if◌then◌else◌, List, [], ◌∷◌, ◌++◌, length, take, drop, Option, None, Some, IsTrue, Contains, ⊤}
 use Rattle.std.specs.List.{flat_map}
 use Rattle.std.specs.Option.{option_or}
 use Rattle.std.specs.Str.{bytes_eq}
@@ -43,6 +43,10 @@ with_row row (next ∷ rows) = if is_below (next.0) (row.0) then next ∷ with_r
 abbrev pub without_row : List ℕ → List Row → List Row
 without_row key [] = []
 without_row key (row ∷ rows) = if bytes_eq (row.0) key then rows else row ∷ without_row key rows
+
+-- a body with these bytes over its own, from an offset on
+abbrev pub written_over : ℕ → List ℕ → List ℕ → List ℕ
+written_over offset part body = take offset body ++ part ++ drop (offset + length part) body
 
 -- rows in the order of their keys
 abbrev pub in_order : List Row → List Row

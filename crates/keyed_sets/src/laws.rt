@@ -1,5 +1,5 @@
 // Laws of a set's rows as a map from key to body, and of an open set beside others. They have no code.
-ghost use Rattle.std.specs.Prelude.{◌≡◌, ℕ, List, None, Some, if◌then◌else◌};
+ghost use Rattle.std.specs.Prelude.{◌≡◌, ℕ, List, None, Some, Contains, map, if◌then◌else◌};
 ghost use Rattle.std.specs.Str.{bytes_eq};
 ghost use Rattle.hal_base.specs.declared.pages.SetId.{SetId};
 ghost use Rattle.hal_base.specs.ShelfCalls.{ShelfView, ChangedIn, GrownBy};
@@ -22,6 +22,14 @@ pub fn each_change_is_of_one_key()
         lookup key (with_row row rows) ≡ (if bytes_eq (row.0) key then Some (row.1) else lookup key rows) }
     ensures removed { (gone key : List ℕ) (rows : List Row) → RowsRise rows →
         lookup key (without_row gone rows) ≡ (if bytes_eq gone key then None else lookup key rows) }
+{}
+
+/// A row put over another of its key stands in that one's place, and all others stay. Of one key there is one body.
+pub fn a_row_is_put_over_another()
+    ensures over { (row : Row) (body : List ℕ) (rows : List Row) → RowsRise rows → lookup (row.0) rows ≡ Some body →
+        with_row row rows ≡ map (λ (other : Row). if bytes_eq (other.0) (row.0) then row else other) rows }
+    ensures one { (key body : List ℕ) (rows : List Row) (row : Row) → RowsRise rows → lookup key rows ≡ Some body →
+        Contains rows row → row.0 ≡ key → row.1 ≡ body }
 {}
 
 /// A set stays open across calls that change pages of another data set or add pages to it, as those of another set do.

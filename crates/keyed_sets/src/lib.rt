@@ -12,7 +12,8 @@
 //! - `set.rt`, `row.rt`, `index.rt`: `KeyedSet`, the lengths of its rows, and the first keys that it keeps;
 //! - `open.rt`, `opening.rt`, `check.rt`: a set is opened: its pages are read, taken in and checked;
 //! - `seek.rt`, `get.rt`, `neighbours.rt`, `fetch.rt`: a key is found, its row, and the rows next to it, by pages that are read;
-//! - `put.rt`, `second.rt`, `remove.rt`: the three ways of a put, the second page that it may take, and a removal;
+//! - `put.rt`, `second.rt`: a row is put in, over another or only where none has its key; the second page that it may take;
+//! - `overwrite.rt`, `remove.rt`: a part of a row's body is written over, a row is taken away;
 //! - `page.rt`, `page_edits.rt`, `write.rt`: one page, what is done to its rows, and what the index keeps of a page put back;
 //! - `laws.rt`: what the words of the contracts say as maps.
 #![tactic(auto)]
@@ -25,6 +26,7 @@ mod laws;
 mod neighbours;
 mod open;
 mod opening;
+mod overwrite;
 mod page;
 mod page_edits;
 mod put;
@@ -35,7 +37,9 @@ mod seek;
 mod set;
 mod write;
 
-pub use laws::{each_change_is_of_one_key, others_leave_a_set_open, rows_rise};
+pub use laws::{
+    a_row_is_put_over_another, each_change_is_of_one_key, others_leave_a_set_open, rows_rise,
+};
 pub use row::RowShape;
 pub use set::KeyedSet;
 

@@ -1,3 +1,5 @@
 mod Adds
+mod Healing
 mod InOrder
+mod Moving
 mod RowLengths

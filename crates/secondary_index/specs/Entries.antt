@@ -1,8 +1,9 @@
 -- The entries of a secondary index, sorted by key: the rows of its data set, of which each has an entry's key, and in its
 -- body the extended pointer to the target and the key of the record's root. IMS: the index pointer segments of a PSINDEX.
-use Rattle.std.specs.Prelude.{◌≡◌, ℕ, ◌+◌, List, ◌++◌, take, drop, map, Bool, Option, IfSome, is_some}
+use Rattle.std.specs.Prelude.{◌≡◌, ℕ, ◌+◌, List, ◌++◌, take, drop, map, Bool, Option, IfSome, is_some, if◌then◌else◌}
 use Rattle.std.specs.List.{slice_get}
 use Rattle.std.specs.Option.{ForSome, option_map}
+use Rattle.std.specs.Str.{bytes_eq}
 use Rattle.hal_base.specs.declared.pages.SetId.{SetId}
 use Rattle.hal_base.specs.ShelfCalls.{ShelfView}
 use Rattle.hal_schema.specs.declared.schema.Schema.{Schema}
@@ -27,6 +28,10 @@ index_shape schema def = record { key = entry_bytes def; body = 16 + key_bytes s
 -- and so of the index at a place
 abbrev pub IsShape : Schema → ℕ → RowShape → Type 0
 IsShape schema place shape = ForSome (slice_get schema.indexes place) (λ def. shape ≡ index_shape schema def)
+
+-- the type of the targets of the index at a place
+abbrev pub HasTarget : Schema → ℕ → ℕ → Type 0
+HasTarget schema place code = ForSome (slice_get schema.indexes place) (λ def. code ≡ def.target)
 
 -- the pages first break the rule of such rows there
 abbrev pub BreaksIndex : Schema → ℕ → ℕ → ℕ → List (List ℕ) → Type 0
@@ -53,6 +58,14 @@ entry_below key rows = option_map entry_of (last_below key rows)
 -- an entry has this key
 abbrev pub has_entry : List ℕ → List Row → Bool
 has_entry key rows = is_some (lookup key rows)
+
+-- the entry of this key
+abbrev pub entry_with : List ℕ → List Row → Option Entry
+entry_with key rows = option_map (λ body. entry_of (key, body)) (lookup key rows)
+
+-- an entry whose pointer has another number and address, where it is that of this key
+abbrev pub healed_at : List ℕ → ℕ → ℕ → Entry → Entry
+healed_at key number addr entry = if bytes_eq entry.key key then record entry { eps = record entry.eps { number = number; addr = addr } } else entry
 
 -- the entry has the lengths of the index
 abbrev pub FitsIndex : KeyedSet → Entry → Type 0

@@ -1,2 +1,4 @@
+pub mod Changes
 pub mod Entries
 pub mod Faults
+pub mod Resolved

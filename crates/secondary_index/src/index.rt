@@ -2,10 +2,10 @@
 ghost use Rattle.std.specs.Prelude.{◌≡◌, ◌↔◌, ◌<◌, ◌≤◌, ℕ, length, IfOk, IfSome, IsErrOf, IsTrue};
 ghost use Rattle.hal_base.specs.ShelfCalls.{OnlyReads};
 ghost use Rattle.keyed_sets.specs.Calls.{IsOpened};
-ghost use Rattle.secondary_index.specs.Entries.{index_set, IsShape, BreaksIndex, FitsIndex};
+ghost use Rattle.secondary_index.specs.Entries.{index_set, IsShape, HasTarget, BreaksIndex, FitsIndex};
 
 use crate::Entry;
-use crate::lengths::shape_of;
+use crate::lengths::{shape_of, target_of};
 use hal_base::{SetId, Shelf, StoreFault};
 use hal_schema::Schema;
 use keyed_sets::{KeyedSet, RowShape};
@@ -18,6 +18,7 @@ pub struct Psindex {
     pub(crate) alloc: Global,
     pub(crate) rows: KeyedSet,
     shape: RowShape,
+    pub(crate) target: u8,
     ghost shaped: { rows.shape ≡ shape },
     ghost pointer: { 16 ≤ shape.body },
 }
@@ -35,7 +36,7 @@ impl Psindex {
         requires live { IsTrue (H.seen shelf.old).live }
         requires known { place < length schema.now.indexes }
         ensures opened { IfOk result (λ index. (index.rows.set ≡ index_set place) × IsOpened index.rows (H.seen shelf.new)) }
-        ensures shape { IfOk result (λ index. IsShape schema.now place index.rows.shape) }
+        ensures shape { IfOk result (λ index. IsShape schema.now place index.rows.shape × HasTarget schema.now place index.target) }
         ensures broken { (page offset : ℕ) → result ≡ Err (StoreFault.BadTile page offset) → IfSome ((H.seen shelf.old).pages (index_set place)) (BreaksIndex schema.now place page offset) }
         ensures leaves { OnlyReads (length ((H.seen shelf.old).places (index_set place))) (H.steady shelf.old shelf.new) (IsErrOf result StoreFault.Failed) (H.seen shelf.old) (H.seen shelf.new) }
     {
@@ -45,8 +46,14 @@ impl Psindex {
             letter: b'A',
         };
         let shape = shape_of(schema, place);
+        let target = target_of(schema, place);
         let rows = KeyedSet::open(alloc, shelf, set, shape.key, shape.body)?;
-        Ok(Psindex { alloc, rows, shape })
+        Ok(Psindex {
+            alloc,
+            rows,
+            shape,
+            target,
+        })
     }
 
     /// Whether an entry's key and root key have the lengths that the definition gives them.

@@ -1,7 +1,7 @@
-// The lengths that a definition gives the entries of an index.
+// What a definition says of an index: the lengths of its entries, and the type of their targets.
 ghost use Rattle.std.specs.Prelude.{◌≡◌, ◌<◌, ◌≤◌, ◌+◌, length, sum_by};
 ghost use Rattle.hal_schema.specs.SegType.{key_bytes};
-ghost use Rattle.secondary_index.specs.Entries.{IsShape};
+ghost use Rattle.secondary_index.specs.Entries.{IsShape, HasTarget};
 
 use hal_schema::{Field, Schema, schemas_are_kept};
 use keyed_sets::RowShape;
@@ -36,4 +36,12 @@ pub(crate) fn shape_of(schema: &Schema, place: u8) -> RowShape
         key: total_bytes(def.search.as_slice()) + total_bytes(def.subseq.as_slice()),
         body: 16 + root_bytes(schema),
     }
+}
+
+/// The code of the type of the targets.
+pub(crate) fn target_of(schema: &Schema, place: u8) -> u8
+    requires { place < length schema.now.indexes }
+    ensures { HasTarget schema.now place result }
+{
+    schema.indexes.as_slice()[place as usize].target
 }

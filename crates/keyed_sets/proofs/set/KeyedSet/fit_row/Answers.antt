@@ -1,6 +1,6 @@
 use Rattle.std.proofs.Common.{◌<◌, ℕ, List, length, set, refl, ap}
 use Rattle.std.proofs.lemmas.List.Elements.{All-set}
-use Rattle.std.proofs.lemmas.Result.{on_ok_weaker, on_err_weaker}
+use Rattle.std.proofs.lemmas.Result.{on_ok_weaker}
 use Rattle.keyed_sets.specs.declared.index.First.{First}
 use Rattle.keyed_sets.specs.Layout.{Row}
 use Rattle.keyed_sets.specs.Reading.{home_page}
@@ -9,7 +9,7 @@ use Rattle.keyed_sets.specs.Writing.{first_at}
 use Rattle.keyed_sets.proofs.FitSet.{head_told, heads_written, fit_told}
 use Rattle.keyed_sets.proofs.Fits.{fit_puts, fit_stands}
 use Rattle.keyed_sets.proofs.Heads.{heads_unchanged}
-use Rattle.keyed_sets.proofs.Steps.{opened_as, opened_still, either, fails_still}
+use Rattle.keyed_sets.proofs.Steps.{opened_as, opened_still, either}
 use Rattle.keyed_sets.proofs.set.KeyedSet.fit_row.Goals as goal
 
 pub put_page-requires-clause-head : goal.put_page-requires-clause-head
@@ -65,8 +65,3 @@ returns-clause-leaves g c =
           (λ w. heads_written self c.args.key.now c.args.spot c.args.page.now c.set_row.new.page before after c.requires.opened c.requires.sought (λ rise. (c.set_row.ensures.puts rise (c.requires.sought.place rise)).head) w.pages)
           (λ u. heads_unchanged self.set before after (u.2.pages self.set));
     }
-
-pub returns-clause-fails : goal.returns-clause-fails
-returns-clause-fails g c =
-    let self = c.args.self.now in
-    fails_still c.put_page.result self (c.args.key.now, c.args.body.now) (g.H.Shelf.seen c.args.shelf.now) (g.H.Shelf.seen c.put_page.new.shelf) (on_err_weaker c.put_page.result (λ u. u.2) c.put_page.ensures.unchanged) c.put_page.ensures.room
