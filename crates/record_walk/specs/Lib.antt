@@ -18,3 +18,4 @@ pub mod OneProof
 pub mod Examples
 pub mod ChangeExamples
 pub mod Orders
+pub mod Leads
