@@ -1,40 +1,35 @@
 -- What the calls that look for a row answer, as functions of the side's list where the pages are told.
-use Rattle.std.specs.Prelude.{◌≡◌, ℕ, ◌==◌, ◌&&◌, Bool, true, if◌then◌else◌, List, find, slice_index, Option, None, Some, IfSome}
-use Rattle.std.specs.Option.{option_map}
+use Rattle.std.specs.Prelude.{◌≡◌, ℕ, ◌==◌, Bool, true, if◌then◌else◌, List, slice_index, Option, None, Some, IfSome}
 use Rattle.std.specs.Ordering.{is_lt}
 use Rattle.std.specs.Str.{bytes_eq}
 use Rattle.hal_base.specs.ShelfCalls.{ShelfView}
 use Rattle.hal_schema.specs.declared.schema.Schema.{Schema}
 use Rattle.hal_schema.specs.Roots.{root_cmp, partition_of}
 use Rattle.hal_schema.specs.declared.row.Row.{Row}
-use Rattle.hal_schema.specs.Row.{row_key, is_parent, are_twins}
+use Rattle.hal_schema.specs.Row.{is_parent, are_twins}
 use Rattle.segment_blocks.specs.declared.tile.Cell.{Cell}
 use Rattle.free_space.specs.SideCalls.{IsTold}
+use Rattle.record_walk.specs.ByKey.{home_where, is_root_where}
 use Rattle.record_walk.specs.Leads.{stand_so}
-use Rattle.record_walk.specs.Listing.{Placed}
 use Rattle.record_walk.specs.Orders.{child_place}
 use Rattle.record_tree.specs.declared.records.Records.{Records}
 use Rattle.record_tree.specs.Standing.{cells_seen, OfList, HoldsRow}
 
--- the home of the first row that passes
-abbrev pub home_where : (Placed → Bool) → List Placed → Option ℕ
-home_where test list = option_map (λ (p : Placed). p.home) (find test list)
+-- the key of a root, and the keys that stand behind a key in the order of roots; all keys where there is none
+abbrev pub is_key : List ℕ → List ℕ → Bool
+is_key key other = bytes_eq other key
 
--- the root of a key, and a root that stands behind a key in the order of roots; every root where there is none
-abbrev pub is_root_of : Schema → List ℕ → Placed → Bool
-is_root_of schema key p = p.row.code == 1 && bytes_eq (row_key schema.types p.row) key
-
-abbrev pub is_root_behind : Schema → Option (List ℕ) → Placed → Bool
-is_root_behind schema None p = p.row.code == 1
-is_root_behind schema (Some key) p = p.row.code == 1 && is_lt (root_cmp schema key (row_key schema.types p.row))
+abbrev pub is_behind : Schema → Option (List ℕ) → List ℕ → Bool
+is_behind schema None other = true
+is_behind schema (Some key) other = is_lt (root_cmp schema key other)
 
 -- a key that a root of the partition may have
 abbrev pub BelongsTo : Schema → ℕ → List ℕ → Type 0
 BelongsTo schema place key = partition_of schema key ≡ Some place
 
--- this is the home of the root that is wanted, or none
-pub record FindsRoot (records : Records) (shelf : ShelfView) (wanted : Placed → Bool) (found : Option ℕ) : Type 0 where
-  pub is : OfList records shelf (λ list. found ≡ home_where wanted list)
+-- this is the home of the first root whose key passes, or none
+pub record FindsRoot (records : Records) (shelf : ShelfView) (test : List ℕ → Bool) (found : Option ℕ) : Type 0 where
+  pub is : OfList records shelf (λ list. found ≡ home_where (is_root_where records.schema test) list)
   pub row : IfSome found (λ home. HoldsRow records shelf home (λ cell. cell.code ≡ 1))
 
 -- an address in a cell: 0 leads nowhere

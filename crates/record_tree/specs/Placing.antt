@@ -10,6 +10,7 @@ use Rattle.hal_schema.specs.Forest.{has_length}
 use Rattle.hal_schema.specs.Insertion.{is_twin_before}
 use Rattle.record_walk.specs.Tree.{Occurrence}
 use Rattle.record_walk.specs.Listing.{Placed, placed}
+use Rattle.record_walk.specs.ByKey.{home_where, is_root_where}
 use Rattle.record_walk.specs.Leads.{stand_so}
 use Rattle.record_walk.specs.Orders.{child_place}
 use Rattle.record_walk.specs.Pointers.{Pointer, Behind, Below}
@@ -21,7 +22,7 @@ use Rattle.segment_blocks.specs.declared.tile.Cell.{Cell}
 use Rattle.record_tree.specs.declared.place.Place.{Place}
 use Rattle.record_tree.specs.declared.records.Records.{Records}
 use Rattle.record_tree.specs.Standing.{cells_seen, OfList, HoldsRow}
-use Rattle.record_tree.specs.Finding.{home_where, is_root_of, BelongsTo}
+use Rattle.record_tree.specs.Finding.{is_key, BelongsTo}
 
 -- a segment that has no home yet, and so no name
 abbrev pub unplaced : (code : ℕ) → List ℕ → Occurrence
@@ -52,7 +53,7 @@ pub record IsPlaceBelow (records : Records) (shelf : ShelfView) (above : ℕ) (p
 pub record IsNewRoot (records : Records) (shelf : ShelfView) (new : Occurrence) : Type 0 where
   pub code : new.code ≡ 1
   pub belongs : BelongsTo records.schema records.place (key_of records.schema new)
-  pub free : OfList records shelf (λ list. home_where (is_root_of records.schema (key_of records.schema new)) list ≡ None)
+  pub free : OfList records shelf (λ list. home_where (is_root_where records.schema (is_key (key_of records.schema new))) list ≡ None)
 
 -- The place is that of a new row: below its parent, or of a root. A root's prior twin isn't looked at.
 pub record IsPlace (records : Records) (shelf : ShelfView) (place : Place) (new : Occurrence) : Type 0 where

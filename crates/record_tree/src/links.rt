@@ -9,6 +9,7 @@ ghost use Rattle.record_tree.specs.Standing.{StandsForRecords, HoldsRow};
 use crate::Records;
 use crate::sides::child_place;
 use hal_base::{PageFault, Shelf};
+use record_walk::{child_places, pointers_lead_on};
 use segment_blocks::Cell;
 
 /// What an address in a cell leads to.
@@ -49,6 +50,8 @@ impl Records {
         ensures leaves { OnlyReads 1 (H.steady shelf.old shelf.new) (IsErrOf result PageFault.Failed) (H.seen shelf.old) (H.seen shelf.new) }
         ensures room { IsErrOf result PageFault.NoRoom → ⊥ }
     {
+        child_places();
+        pointers_lead_on();
         let cell = self.cells.cell(shelf, at)?;
         let place = child_place(self.schema.types.as_slice(), code);
         let children = cell.children.as_slice();
@@ -68,6 +71,7 @@ impl Records {
         ensures leaves { OnlyReads 1 (H.steady shelf.old shelf.new) (IsErrOf result PageFault.Failed) (H.seen shelf.old) (H.seen shelf.new) }
         ensures room { IsErrOf result PageFault.NoRoom → ⊥ }
     {
+        pointers_lead_on();
         let cell = self.cells.cell(shelf, at)?;
         Ok(pointed(cell.twin))
     }

@@ -5,10 +5,10 @@ ghost use Rattle.record_tree.specs.Sides.{first_set};
 ghost use Rattle.record_tree.specs.Standing.{KeepsSide, IsOpenedFor, BreaksSide, all_pages};
 
 use crate::Records;
-use crate::sides::{letters_of, root_bytes, root_set, shapes_of};
+use crate::sides::{first_set, letters_of, root_bytes, root_set, shapes_of};
 use free_space::SideCells;
-use hal_base::{SetId, Shelf, StoreFault};
-use hal_schema::Schema;
+use hal_base::{Shelf, StoreFault};
+use hal_schema::{Schema, schemas_are_kept};
 use keyed_sets::KeyedSet;
 use std::alloc::Global;
 
@@ -35,12 +35,8 @@ impl Records {
         ensures leaves { OnlyReads (all_pages (first_set schema.now place number side) (H.seen shelf.old)) (H.steady shelf.old shelf.new)
             (IsErrOf result StoreFault.Failed) (H.seen shelf.old) (H.seen shelf.new) }
     {
-        let part = schema.parts.as_slice()[usize::from(place)].number;
-        let first = SetId {
-            part,
-            number,
-            letter: side,
-        };
+        schemas_are_kept();
+        let first = first_set(schema, place, number, side);
         let letters = letters_of(alloc, schema)?;
         let shapes = shapes_of(alloc, schema)?;
         let cells = SideCells::open(alloc, shelf, first, letters.as_slice(), shapes.as_slice())?;

@@ -7,6 +7,7 @@ ghost use Rattle.record_tree.specs.Standing.{StandsForRecords, HoldsRow};
 
 use crate::Records;
 use hal_base::{Bytes, PageFault, Shelf};
+use record_walk::{changed_sides, replaced_content_is_listed};
 
 impl Records {
     /// Replaces the content of the row at a home; a root keeps its key. After a fault the shelf is as it was.
@@ -24,6 +25,8 @@ impl Records {
         ensures leaves { ChangesSide 0 self.old (H.steady shelf.old shelf.new) (IsErrOf result PageFault.Failed) (H.seen shelf.old) (H.seen shelf.new) }
         ensures fails { OnErr result (SameShelf (H.seen shelf.old) (H.seen shelf.new)) × (IsErrOf result PageFault.NoRoom → ⊥) }
     {
+        changed_sides();
+        replaced_content_is_listed();
         let content = content.copy()?;
         self.cells.set_content(shelf, at, content)
     }

@@ -2,7 +2,7 @@
 ghost use Rattle.std.specs.Prelude.{◌≡◌, ◌<◌, ◌≤◌, length, IfOk};
 ghost use Rattle.hal_schema.specs.SegType.{key_bytes};
 ghost use Rattle.record_walk.specs.Orders.{child_place};
-ghost use Rattle.record_tree.specs.Sides.{letters_of, shapes_of, root_set};
+ghost use Rattle.record_tree.specs.Sides.{first_set, letters_of, shapes_of, root_set};
 
 use hal_base::{List, Memory, SetId, Shape};
 use hal_schema::{Schema, SegType, schemas_are_kept};
@@ -34,12 +34,23 @@ pub(crate) fn shapes_of(alloc: Global, schema: &Schema) -> Result<List<Shape>, M
 /// How long the key of a root is.
 pub(crate) fn root_bytes(schema: &Schema) -> u16
     ensures is { result ≡ key_bytes schema.now.types 1 }
-    ensures some { 0 < result }
     ensures short { result ≤ 100 }
 {
     schemas_are_kept();
     let root = schema.types.as_slice().first();
     root.and_then(|t| t.key).map_or(0, |k| k.bytes)
+}
+
+/// The first data set of a side.
+pub(crate) fn first_set(schema: &Schema, place: u16, number: u16, side: u8) -> SetId
+    requires { place < length schema.now.parts }
+    ensures { result ≡ first_set schema.now place number side }
+{
+    SetId {
+        part: schema.parts.as_slice()[usize::from(place)].number,
+        number,
+        letter: side,
+    }
 }
 
 /// The root set beside the side's first data set.

@@ -21,3 +21,4 @@ pub mod ExampleChanges
 mod OrderedCodes
 pub mod LeadsOn
 pub mod LaterChildren
+mod RootsByKey

@@ -19,3 +19,4 @@ pub mod Examples
 pub mod ChangeExamples
 pub mod Orders
 pub mod Leads
+pub mod ByKey

@@ -13,12 +13,13 @@
 //! part by part of the rules of a sound volume.
 //!
 //! The laws: `walk`, `listed`, `records`, `named`, `firsts`, `root_rows` of changed pointers, in cells and in lists;
-//! `parents`, `siblings`, `orders` of the sequence; `leads` of pointers; `side_changes`, `one_proof` of a side; `volume`, `one_side`,
+//! `parents`, `siblings`, `orders` of the sequence; `leads` of pointers, `by_key` of roots; `side_changes`, `one_proof` of a side; `volume`, `one_side`,
 //! `in_records` of all sides together; `examples` has sides of three levels.
 //!
 //! Each law is the contract of a function without code; a proof above calls it and has the law.
 #![tactic(auto)]
 
+mod by_key;
 mod examples;
 mod firsts;
 mod in_records;
@@ -36,6 +37,7 @@ mod side_changes;
 mod volume;
 mod walk;
 
+pub use by_key::roots_go_by_rows;
 pub use examples::{broken_sides, changes_make_sides, example_sides, sides_make_forests};
 pub use firsts::{
     first_children_are_inserted, first_roots_are_inserted, later_children_are_inserted,
