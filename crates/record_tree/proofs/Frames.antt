@@ -1,17 +1,17 @@
 -- What a call that changes a cell of the side leaves of the rest.
-use Rattle.std.proofs.Common.{◌≡◌, ◌≢◌, ℕ, ◌+◌, ◌<◌, ◌≤◌, ◌==◌, nat_lt, Bool, true, false, cond, List, [], length, drop, Option, None, Some, Result, Ok, Err, refl, sym, ap, subst, ◌∙◌, arith, if◌then◌else◌}
+use Rattle.std.proofs.Common.{◌≡◌, ℕ, ◌+◌, ◌<◌, ◌==◌, nat_lt, Bool, true, false, List, Option, None, Some, Result, Ok, Err, refl, sym, ap, subst, ◌∙◌, arith, if◌then◌else◌}
 use Rattle.std.specs.Prelude.{IsSome, OnOk, OnErr}
 use Rattle.std.proofs.lemmas.Bool.{ltb-true, false≢true}
 use Rattle.hal_base.specs.declared.pages.SetId.{SetId}
 use Rattle.hal_base.specs.declared.place.Shape.{Shape}
-use Rattle.hal_base.specs.ShelfCalls.{ShelfView, ChangedIn, OnlyChanges}
+use Rattle.hal_base.specs.ShelfCalls.{ShelfView, ChangedIn}
 use Rattle.segment_blocks.specs.declared.tile.Cell.{Cell}
 use Rattle.free_space.specs.Side.{IsFirst, lettered, place_at, cell_in, side_cell}
-use Rattle.free_space.specs.SideCalls.{IsTold, OnlyChangesAt, set_at}
+use Rattle.free_space.specs.SideCalls.{OnlyChangesAt, set_at}
 use Rattle.record_tree.specs.declared.records.Records.{Records}
 use Rattle.record_tree.specs.Sides.{root_set}
-use Rattle.record_tree.specs.Standing.{StandsForRecords, HoldsRow, cells_seen, rows_seen}
-use Rattle.record_tree.specs.Changing.{IsElsewhere, ChangesSide}
+use Rattle.record_tree.specs.Standing.{StandsForRecords, HoldsRow}
+use Rattle.record_tree.specs.Changing.{ChangesSide}
 use Rattle.record_tree.proofs.RootRows.{Alike}
 
 -- a cell stands at addresses of the ten letters alone

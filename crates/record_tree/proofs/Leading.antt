@@ -2,7 +2,7 @@
 use Rattle.std.proofs.Common.{◌≡◌, ◌≢◌, ℕ, ◌<◌, ◌==◌, Bool, true, false, List, map, length, Option, None, Some, refl, sym, ap, subst, ◌∙◌, arith}
 use Rattle.std.specs.Prelude.{slice_index, slice_get, option_and_then, IfSome, if◌then◌else◌}
 use Rattle.std.specs.Option.{option_map, option_map_or}
-use Rattle.std.proofs.lemmas.Bool.{eqb-true, eqb-false}
+use Rattle.std.proofs.lemmas.Bool.{eqb-false}
 use Rattle.hal_base.specs.ShelfCalls.{ShelfView}
 use Rattle.hal_schema.specs.declared.schema.Schema.{Schema}
 use Rattle.hal_schema.specs.Row.{is_parent, are_twins}
@@ -12,16 +12,16 @@ use Rattle.free_space.specs.SideCalls.{IsTold}
 use Rattle.record_walk.specs.Tree.{Chains, times_in, child_codes}
 use Rattle.record_walk.specs.Listing.{list_in}
 use Rattle.record_walk.specs.Pointers.{Pointer, Behind, Below, Root}
-use Rattle.record_walk.specs.Changes.{stands_in, leads_to}
-use Rattle.record_walk.specs.Leads.{PointersLeadOn, LeadsOn, stand_so}
+use Rattle.record_walk.specs.Changes.{leads_to}
+use Rattle.record_walk.specs.Leads.{PointersLeadOn, stand_so}
 use Rattle.record_walk.specs.Orders.{child_place, ChildPlaces}
 use Rattle.record_walk.specs.Records.{code_behind}
-use Rattle.record_walk.specs.Side.{RootRow, seen, IsWalked, IsSideOf}
+use Rattle.record_walk.specs.Side.{RootRow, seen, IsWalked}
 use Rattle.record_walk.specs.Spans.{AreRecords, IsIn}
 use Rattle.record_tree.specs.declared.records.Records.{Records}
-use Rattle.record_tree.specs.Finding.{FindsTwins, FindsChild, FindsTwin, pointed, first_child}
+use Rattle.record_tree.specs.Finding.{FindsChild, FindsTwin, pointed, first_child}
 use Rattle.record_tree.specs.Standing.{StandsForRecords, Walks, HoldsRow, cells_seen, rows_seen}
-use Rattle.record_tree.proofs.Seen.{some_is, SeenOf, SeenAt, seen_at, CellAt, cell_at}
+use Rattle.record_tree.proofs.Seen.{some_is, seen_at, cell_at}
 
 abbrev pub homes : List RootRow → List ℕ
 homes rows = map (λ (row : RootRow). row.home) rows

@@ -1,5 +1,5 @@
 -- A side that was opened.
-use Rattle.std.proofs.Common.{◌≡◌, ℕ, zero, suc, ◌+◌, ◌<◌, ◌≤◌, Bool, false, cond, List, [], ◌∷◌, length, Option, None, Some, Result, Ok, Err, inl, inr, refl, sym, ap, subst, ◌∙◌, arith}
+use Rattle.std.proofs.Common.{◌≡◌, ℕ, zero, suc, ◌<◌, Bool, false, cond, List, [], ◌∷◌, length, Option, None, Some, Result, Ok, Err, inl, inr, refl, sym, ap, subst, ◌∙◌, arith}
 use Rattle.std.specs.Prelude.{slice_get, IsSome, IfSome}
 use Rattle.std.specs.Option.{ForSome}
 use Rattle.hal_base.specs.declared.pages.SetId.{SetId}
@@ -8,20 +8,16 @@ use Rattle.hal_base.specs.ShelfCalls.{ShelfView, SameShelf, OnlyReads}
 use Rattle.hal_base.proofs.ShelfLemmas.{same_then, reads_then, reads_more, reads_as}
 use Rattle.hal_schema.specs.declared.schema.Schema.{Schema}
 use Rattle.hal_schema.specs.SegType.{key_bytes}
-use Rattle.segment_blocks.specs.declared.tile.Cell.{Cell}
 use Rattle.free_space.specs.declared.side.SideCells.{SideCells}
-use Rattle.free_space.specs.declared.store.CellStore.{CellStore}
 use Rattle.free_space.specs.Side.{lettered, side_cell}
 use Rattle.free_space.specs.SideCalls.{StandsForSide, SideBreaksAt, side_pages}
 use Rattle.free_space.specs.Store.{AreTiled, Knows}
 use Rattle.keyed_sets.specs.declared.row.RowShape.{RowShape}
-use Rattle.keyed_sets.specs.declared.set.KeyedSet.{KeyedSet}
 use Rattle.keyed_sets.specs.Calls.{IsOpened}
 use Rattle.keyed_sets.specs.Rule.{KeepsRule, BreaksAt, Breaks}
-use Rattle.record_walk.specs.Side.{RootRow}
 use Rattle.record_tree.specs.declared.records.Records.{Records}
 use Rattle.record_tree.specs.Sides.{part_number, first_set, root_set, root_shape, root_rows, letters_of, shapes_of}
-use Rattle.record_tree.specs.Standing.{IsOfSide, StandsForRecords, KeepsSide, IsWellMade, BreaksSide, all_pages, cells_seen, rows_seen}
+use Rattle.record_tree.specs.Standing.{IsOfSide, StandsForRecords, KeepsSide, BreaksSide, all_pages, cells_seen, rows_seen}
 use Rattle.record_tree.proofs.Staying.{cells_same, side_as, side_same}
 
 -- one fault, in two results

@@ -1,26 +1,20 @@
 -- A content that was replaced.
-use Rattle.std.proofs.Common.{◌≡◌, ◌≢◌, ℕ, ◌<◌, List, Option, None, Some, refl, sym, ap, subst, ◌∙◌}
-use Rattle.std.specs.Prelude.{IsSome}
-use Rattle.std.specs.Option.{option_map}
-use Rattle.hal_base.specs.declared.pages.SetId.{SetId}
+use Rattle.std.proofs.Common.{◌≡◌, ℕ, List, sym, ap, subst}
 use Rattle.hal_base.specs.ShelfCalls.{ShelfView, ChangedIn}
-use Rattle.hal_schema.specs.declared.schema.Schema.{Schema}
-use Rattle.segment_blocks.specs.declared.tile.Cell.{Cell}
 use Rattle.free_space.specs.Map.{Alters}
 use Rattle.free_space.specs.SideCalls.{StandsForSide, IsTold, Turns, set_at}
 use Rattle.record_walk.specs.Tree.{Chains}
-use Rattle.record_walk.specs.Listing.{Placed, list_in}
 use Rattle.record_walk.specs.Pointers.{with_content_at}
 use Rattle.record_walk.specs.Changes.{set_content}
 use Rattle.record_walk.specs.Side.{RootRow, seen, IsSideOf}
 use Rattle.record_walk.specs.SideChanges.{ChangedSides}
-use Rattle.record_walk.specs.Spans.{replaced_at, ReplacedContentIsListed}
+use Rattle.record_walk.specs.Spans.{ReplacedContentIsListed}
 use Rattle.record_tree.specs.declared.records.Records.{Records}
 use Rattle.record_tree.specs.Sides.{root_rows}
-use Rattle.record_tree.specs.Standing.{StandsForRecords, Walks, HoldsRow, cells_seen, rows_seen}
+use Rattle.record_tree.specs.Standing.{StandsForRecords, HoldsRow, cells_seen, rows_seen}
 use Rattle.record_tree.specs.Placing.{KeepsKey}
-use Rattle.record_tree.specs.Changing.{ListBecomes, Replaces}
-use Rattle.record_tree.proofs.Leading.{homes, records_of, Read, read_of}
+use Rattle.record_tree.specs.Changing.{Replaces}
+use Rattle.record_tree.proofs.Leading.{homes, records_of, read_of}
 use Rattle.record_tree.proofs.RootRows.{Alike}
 use Rattle.record_tree.proofs.Staying.{set_beside}
 use Rattle.record_tree.proofs.Frames.{told_back, root_pages}

@@ -1,6 +1,6 @@
 -- Roots are found by the rows of the root set.
-use Rattle.std.proofs.Common.{◌≡◌, ℕ, zero, suc, ◌<◌, ◌==◌, nat_lt, Bool, true, false, cond, List, [], ◌∷◌, map, length, Option, None, Some, refl, sym, ap, subst, ◌∙◌, arith}
-use Rattle.std.specs.Prelude.{slice_index, slice_get, find, IfSome, IsSome}
+use Rattle.std.proofs.Common.{◌≡◌, ℕ, suc, ◌<◌, ◌==◌, nat_lt, Bool, true, false, cond, List, [], ◌∷◌, map, length, Option, None, Some, refl, sym, ap, subst, ◌∙◌, arith}
+use Rattle.std.specs.Prelude.{slice_index, find, IfSome, IsSome}
 use Rattle.std.specs.Int.{w32, from_be_bytes}
 use Rattle.std.specs.List.{list_all}
 use Rattle.std.specs.Option.{option_map, option_map_or}
@@ -19,8 +19,8 @@ use Rattle.keyed_sets.specs.declared.set.KeyedSet.{KeyedSet}
 use Rattle.keyed_sets.specs.Layout.{Row, is_below}
 use Rattle.keyed_sets.specs.Map.{lookup, first_above, next_after, rows_of}
 use Rattle.record_walk.specs.Tree.{Chains}
-use Rattle.record_walk.specs.Pointers.{Pointer, Behind, Below, Root}
-use Rattle.record_walk.specs.ByKey.{home_where, is_root_where, RootsGoByRows}
+use Rattle.record_walk.specs.Pointers.{Below, Root}
+use Rattle.record_walk.specs.ByKey.{RootsGoByRows}
 use Rattle.record_walk.specs.Leads.{PointersLeadOn}
 use Rattle.record_walk.specs.Orders.{RootsGoByKey}
 use Rattle.record_walk.specs.Side.{RootRow, seen}
@@ -31,7 +31,7 @@ use Rattle.record_tree.specs.Standing.{StandsForRecords, Walks, HoldsRow, cells_
 use Rattle.record_tree.specs.Finding.{FindsRoot, BelongsTo, is_key, is_behind}
 use Rattle.record_tree.proofs.Seen.{some_is}
 use Rattle.record_tree.proofs.Staying.{records_same}
-use Rattle.record_tree.proofs.Leading.{LedTo, led, homes}
+use Rattle.record_tree.proofs.Leading.{led, homes}
 
 -- ---- rows that are found
 

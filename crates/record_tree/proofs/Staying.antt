@@ -1,5 +1,5 @@
 -- A side that was only read is open still.
-use Rattle.std.proofs.Common.{◌≡◌, ℕ, ◌<◌, nat_lt, Bool, List, [], length, Option, None, Some, refl, sym, ap, subst, ◌∙◌, if◌then◌else◌}
+use Rattle.std.proofs.Common.{◌≡◌, ℕ, ◌<◌, nat_lt, List, length, Option, None, sym, ap, subst, ◌∙◌, if◌then◌else◌}
 use Rattle.std.specs.Prelude.{IsSome, All}
 use Rattle.std.specs.Option.{ForSome}
 use Rattle.hal_base.specs.declared.pages.SetId.{SetId}
@@ -11,8 +11,8 @@ use Rattle.segment_blocks.specs.declared.tile.Cell.{Cell}
 use Rattle.free_space.specs.declared.store.CellStore.{CellStore}
 use Rattle.free_space.specs.declared.side.SideCells.{SideCells}
 use Rattle.free_space.specs.Side.{lettered, place_at, cell_in, side_cell}
-use Rattle.free_space.specs.SideCalls.{IsLetter, StandsForSide, IsTold}
-use Rattle.free_space.specs.Store.{StandsFor, Knows}
+use Rattle.free_space.specs.SideCalls.{StandsForSide}
+use Rattle.free_space.specs.Store.{StandsFor}
 use Rattle.keyed_sets.specs.declared.index.First.{First}
 use Rattle.keyed_sets.specs.declared.set.KeyedSet.{KeyedSet}
 use Rattle.keyed_sets.specs.Calls.{IsOpened}

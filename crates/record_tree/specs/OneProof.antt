@@ -1,6 +1,5 @@
 -- That a side of records is open has one proof, so that a type may keep it.
-use Rattle.std.specs.Prelude.{ℕ, List}
-use Rattle.std.specs.Coded.{le_prop, Coded-set, codes}
+use Rattle.std.specs.Coded.{Coded-set, codes}
 use Rattle.hal_base.specs.ShelfCalls.{ShelfView}
 use Rattle.free_space.specs.OneProof.{StandsForSide-prop}
 use Rattle.keyed_sets.specs.OneProof.{IsOpened-prop}
@@ -13,5 +12,11 @@ of_side records = hlevel (Coded-set, codes)
 
 pub StandsForRecords-prop : (records : Records) (shelf : ShelfView) → IsProp (StandsForRecords records shelf)
 StandsForRecords-prop records shelf =
-    hlevel (Coded-set, codes, of_side records, StandsForSide-prop records.cells shelf, IsOpened-prop records.roots shelf,
-    IsSide-prop records.schema records.place (cells_seen records shelf) (rows_seen records shelf))
+    hlevel (
+      Coded-set,
+      codes,
+      of_side records,
+      StandsForSide-prop records.cells shelf,
+      IsOpened-prop records.roots shelf,
+      IsSide-prop records.schema records.place (cells_seen records shelf) (rows_seen records shelf),
+    )

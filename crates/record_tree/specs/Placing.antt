@@ -1,5 +1,5 @@
 -- Where a new row stands, and what it must be.
-use Rattle.std.specs.Prelude.{◌≡◌, ℕ, ◌==◌, true, false, List, [], length, Option, None, Some, option_and_then, find}
+use Rattle.std.specs.Prelude.{◌≡◌, ℕ, ◌==◌, true, List, [], length, Option, None, Some, option_and_then, find}
 use Rattle.std.specs.Option.{option_map}
 use Rattle.hal_base.specs.declared.place.Ilk.{Ilk}
 use Rattle.hal_base.specs.ShelfCalls.{ShelfView}

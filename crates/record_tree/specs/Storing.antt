@@ -1,5 +1,5 @@
 -- Words of the private functions: a cell that is stored for a new row, before a pointer leads to it.
-use Rattle.std.specs.Prelude.{◌≡◌, ℕ, List}
+use Rattle.std.specs.Prelude.{◌≡◌, ℕ}
 use Rattle.hal_base.specs.declared.place.Ilk.{Ilk}
 use Rattle.hal_base.specs.ShelfCalls.{ShelfView}
 use Rattle.free_space.specs.Map.{Adds}

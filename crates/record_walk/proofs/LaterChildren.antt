@@ -1,10 +1,10 @@
 -- Twins behind a twin were inserted at their places.
-use Rattle.std.proofs.Common.{◌≡◌, ℕ, zero, suc, ◌+◌, ◌<◌, ◌≤◌, ◌==◌, Bool, true, false, not, ◌&&◌, ◌||◌, List, [], ◌∷◌, ◌++◌, length, Option, None, Some, ◌⊎◌, inl, inr, refl, sym, ap, subst, ◌∙◌, arith}
+use Rattle.std.proofs.Common.{◌≡◌, ℕ, ◌+◌, ◌<◌, ◌==◌, Bool, true, not, ◌&&◌, ◌||◌, List, [], ◌∷◌, ◌++◌, Option, None, Some, ◌⊎◌, inl, inr, refl, sym, ap, subst, ◌∙◌, arith}
 use Rattle.std.specs.Prelude.{slice_index}
 use Rattle.std.specs.Cmp.{IsTotalOrder}
 use Rattle.std.specs.List.{list_all, list_any, slice_get}
 use Rattle.std.specs.Option.{option_map_or}
-use Rattle.std.proofs.lemmas.Bool.{and_parts, and_from, or_right, or_cases, eq-eqb, eqb-true, not-true, false≢true}
+use Rattle.std.proofs.lemmas.Bool.{and_parts, or_right, or_cases, eq-eqb, eqb-true, not-true, false≢true}
 use Rattle.std.proofs.lemmas.List.{append_assoc}
 use Rattle.hal_base.specs.declared.place.Ilk.{Ilk}
 use Rattle.hal_schema.specs.declared.row.Row.{Row}
@@ -14,12 +14,12 @@ use Rattle.hal_schema.specs.Facts.{SchemasAreKept}
 use Rattle.hal_schema.specs.Forest.{all_pairs, may_follow, in_twin_order, twin_cmp}
 use Rattle.hal_schema.specs.Insertion.{inserted, stands_before, is_lower_child, is_twin_before, goes_before, is_first}
 use Rattle.hal_schema.specs.Roots.{root_cmp}
-use Rattle.hal_schema.specs.Row.{same_parent, is_parent, are_twins, row_level}
+use Rattle.hal_schema.specs.Row.{same_parent, is_parent, are_twins}
 use Rattle.hal_schema.specs.SegType.{level_of}
 use Rattle.segment_blocks.specs.declared.tile.Cell.{Cell}
-use Rattle.forest_laws.proofs.Lists.{Among, among_passes, among_append, among_left, among_right, among_middle, all_append, all_among, pairs_at, pairs_parts}
-use Rattle.forest_laws.proofs.Names.{parents_are, apart_names, same_some}
-use Rattle.record_walk.specs.Tree.{Occurrence, Twins, no_segment, segment, Chains, no_chain, chain, first_of, firsts_of, cell_of, Hangs, times_in, child_codes, are_of, are_chains_of}
+use Rattle.forest_laws.proofs.Lists.{Among, among_passes, among_append, among_left, among_right, all_append, all_among, pairs_at, pairs_parts}
+use Rattle.forest_laws.proofs.Names.{parents_are, apart_names}
+use Rattle.record_walk.specs.Tree.{Occurrence, Twins, no_segment, segment, Chains, no_chain, chain, first_of, firsts_of, cell_of, Hangs, child_codes, are_of}
 use Rattle.record_walk.specs.Listing.{Placed, placed, list_of, list_in, rows_of}
 use Rattle.record_walk.specs.Pointers.{Behind, with_chain, in_home, with_segment}
 use Rattle.record_walk.specs.Side.{heads_of, heads_in}
@@ -30,11 +30,11 @@ use Rattle.record_walk.specs.Named.{IsLastBefore}
 use Rattle.record_walk.specs.Spans.{ComesBehind}
 use Rattle.record_walk.specs.Firsts.{stays_behind, LaterChildrenAreInserted}
 use Rattle.record_walk.proofs.Levels.{Typed, children_level, typed}
-use Rattle.record_walk.proofs.Splitting.{Split, Fence}
+use Rattle.record_walk.proofs.Splitting.{Split}
 use Rattle.record_walk.proofs.OnLists.{deepens, segment_in as segment_at, is_at, Alone, alone_at, new_twins_stand_behind_spans}
 use Rattle.record_walk.proofs.ByName.{new_twins_are_inserted}
 use Rattle.record_walk.proofs.Joined.{rows_pass}
-use Rattle.record_walk.proofs.Rising.{either, apart, Named, Under, under, topped, Topped, parted, not_above, pairs_rows, by_key, by_key_of, pairs_of, keys_of, children_climb, head_codes, named_roots}
+use Rattle.record_walk.proofs.Rising.{apart, Named, topped, Topped, parted, not_above, pairs_rows, by_key, by_key_of, pairs_of, keys_of, children_climb, named_roots}
 use Rattle.record_walk.proofs.FirstChildren.{all_stay, AtPlace, at_place, off, stranger, Found, rest_passes, more_pass, twins_pass, child_of_level}
 
 -- ---- lists

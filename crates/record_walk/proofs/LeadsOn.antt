@@ -1,5 +1,5 @@
 -- Where the pointers of met cells lead.
-use Rattle.std.proofs.Common.{◌≡◌, ℕ, zero, suc, ◌<◌, ◌==◌, Bool, true, false, ◌&&◌, ◌||◌, List, [], ◌∷◌, ◌++◌, length, Option, None, Some, inl, inr, refl, sym, ap, subst, ◌∙◌, arith}
+use Rattle.std.proofs.Common.{◌≡◌, ℕ, zero, suc, ◌<◌, ◌==◌, Bool, true, ◌&&◌, List, [], ◌∷◌, ◌++◌, length, Option, None, Some, inl, inr, refl, sym, ap, subst, ◌∙◌, arith}
 use Rattle.std.specs.Prelude.{slice_index, slice_get, option_and_then}
 use Rattle.std.specs.List.{list_any}
 use Rattle.std.specs.Option.{option_map, option_map_or}
@@ -9,7 +9,7 @@ use Rattle.hal_schema.specs.declared.row.Row.{Row}
 use Rattle.hal_schema.specs.declared.schema.SegType.{SegType}
 use Rattle.hal_schema.specs.declared.schema.Schema.{Schema}
 use Rattle.hal_schema.specs.Facts.{SchemasAreKept}
-use Rattle.hal_schema.specs.Row.{same_name, same_parent, is_parent, are_twins}
+use Rattle.hal_schema.specs.Row.{same_parent, is_parent, are_twins}
 use Rattle.hal_schema.proofs.RowNames.{name_itself}
 use Rattle.segment_blocks.specs.declared.tile.Cell.{Cell}
 use Rattle.forest_laws.proofs.Lists.{Among, among_left, among_right}
@@ -21,7 +21,7 @@ use Rattle.record_walk.specs.Changes.{leads_to}
 use Rattle.record_walk.specs.Records.{code_behind}
 use Rattle.record_walk.specs.Spans.{AreRecords, IsIn}
 use Rattle.record_walk.specs.Leads.{stand_so, LeadsOn, PointersLeadOn}
-use Rattle.record_walk.proofs.Levels.{Typed, typed, ones, roots_typed}
+use Rattle.record_walk.proofs.Levels.{typed, ones, roots_typed}
 use Rattle.record_walk.proofs.OnLists.{deepens, segment_in}
 
 -- ---- tests of some

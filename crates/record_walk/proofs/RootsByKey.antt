@@ -1,13 +1,12 @@
 -- In PHIDAM a root is found by its row.
-use Rattle.std.proofs.Common.{◌≡◌, ℕ, ◌+◌, ◌<◌, ◌≤◌, ◌==◌, nat_lt, Bool, true, false, not, cond, ◌&&◌, List, [], ◌∷◌, ◌++◌, length, map, Option, None, Some, refl, sym, ap, subst, ◌∙◌, arith}
+use Rattle.std.proofs.Common.{◌≡◌, ℕ, ◌<◌, ◌==◌, nat_lt, Bool, true, false, not, cond, ◌&&◌, List, [], ◌∷◌, ◌++◌, map, Option, None, Some, refl, sym, ap, subst, ◌∙◌, arith}
 use Rattle.std.specs.Prelude.{find}
 use Rattle.std.specs.List.{list_all}
 use Rattle.std.specs.Option.{option_map, option_map_or}
 use Rattle.std.specs.Str.{bytes_eq}
-use Rattle.std.proofs.lemmas.Bool.{and_parts, and_from, eq-eqb, eqb-true, not-true, not_from_false, ltb-true, false≢true, ne_eqb}
-use Rattle.std.proofs.lemmas.List.{append_assoc, append-nil}
+use Rattle.std.proofs.lemmas.Bool.{and_parts, and_from, eq-eqb, not-true, not_from_false, ltb-true, false≢true, ne_eqb}
+use Rattle.std.proofs.lemmas.List.{append-nil}
 use Rattle.std.proofs.lemmas.Slice.Eq.{bytes_eq-Decides}
-use Rattle.hal_base.specs.declared.place.Ilk.{Ilk}
 use Rattle.hal_schema.specs.declared.schema.Schema.{Schema}
 use Rattle.hal_schema.specs.Facts.{SchemasAreKept}
 use Rattle.std.specs.Int.{w32, to_be_bytes}
@@ -17,8 +16,8 @@ use Rattle.segment_blocks.specs.declared.tile.Cell.{Cell}
 use Rattle.forest_laws.proofs.Lists.{all_weaker}
 use Rattle.record_walk.specs.Tree.{Occurrence, Twins, no_segment, segment, Chains, no_chain, chain, first_of, firsts_of, cell_of, Hangs, HangIn, are_of, are_roots}
 use Rattle.record_walk.specs.Listing.{Placed, placed, list_of, list_in}
-use Rattle.record_walk.specs.Side.{RootRow, alone, seen, heads_of, heads_in, key_of, row_key_of, are_keyed, belongs, IsSideOf}
-use Rattle.record_walk.specs.ByKey.{home_where, is_root_where, RootsOfRows, RootsGoByRows}
+use Rattle.record_walk.specs.Side.{RootRow, alone, seen, heads_of, heads_in, key_of, row_key_of, are_keyed, belongs}
+use Rattle.record_walk.specs.ByKey.{home_where, is_root_where, RootsGoByRows}
 use Rattle.record_walk.proofs.Levels.{typed, is_deep}
 use Rattle.record_walk.proofs.Joined.{no_root, below_roots}
 

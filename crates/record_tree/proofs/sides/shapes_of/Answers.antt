@@ -1,8 +1,6 @@
-use Rattle.std.proofs.Common.{◌≡◌, ◌∙◌, ◌++◌, ◌∷◌, [], ℕ, Option, Some, List, length, take, get_or, sym, ap, subst, arith}
+use Rattle.std.proofs.Common.{◌∙◌, ◌++◌, ◌∷◌, [], List, ap, arith}
 use Rattle.hal_base.specs.declared.place.Shape.{Shape}
-use Rattle.hal_schema.specs.declared.schema.Schema.{Schema}
-use Rattle.record_tree.specs.Sides.{shapes_of}
-use Rattle.record_tree.proofs.Types.{shapes_long, one_more, all_taken}
+use Rattle.record_tree.proofs.Types.{one_more, all_taken}
 use Rattle.record_tree.proofs.sides.shapes_of.Goals as goal
 
 pub loop-place-preserved : goal.loop-place-preserved

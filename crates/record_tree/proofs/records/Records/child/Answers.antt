@@ -1,4 +1,4 @@
-use Rattle.std.proofs.Common.{◌≡◌, ◌∙◌, ◌<◌, ℕ, List, length, get_or, ap, arith}
+use Rattle.std.proofs.Common.{◌≡◌, ◌∙◌, ℕ, List, length, get_or, ap, arith}
 use Rattle.hal_schema.specs.declared.schema.SegType.{SegType}
 use Rattle.record_walk.specs.Orders.{child_place}
 use Rattle.record_tree.specs.Finding.{pointed}

@@ -26,9 +26,9 @@ returns-clause-kept g c =
     let new = g.H.Shelf.seen c.set_content.new.shelf in (
       refl,
       either_way c.set_content.result c.set_content.ensures.alters.altered c.set_content.ensures.alters.unchanged (λ turns.
-      replaced_stands c.changed_sides.ensures records old new c.args.at c.args.content.now (g.met.H.Shelf.told_alike c.args.shelf.now) (g.met.H.Shelf.told_alike c.set_content.new.shelf) c.requires.stands c.requires.row
-      c.set_content.ensures.leaves.changed c.set_content.ensures.stands (subst (λ (k : List ℕ). Turns records.cells records.cells old new (Alters c.args.at (set_content k))) c.in_ok-content.ensures turns))
-      (λ same. records_same records old new c.requires.stands same),
+          replaced_stands c.changed_sides.ensures records old new c.args.at c.args.content.now (g.met.H.Shelf.told_alike c.args.shelf.now) (g.met.H.Shelf.told_alike c.set_content.new.shelf) c.requires.stands c.requires.row
+          c.set_content.ensures.leaves.changed c.set_content.ensures.stands (subst (λ (k : List ℕ). Turns records.cells records.cells old new (Alters c.args.at (set_content k))) c.in_ok-content.ensures turns))
+          (λ same. records_same records old new c.requires.stands same),
     )
 
 pub returns-clause-leaves : goal.returns-clause-leaves

@@ -1,4 +1,3 @@
-use Rattle.std.proofs.Common.{◌∙◌, ap}
 use Rattle.record_tree.proofs.Staying.{records_same}
 use Rattle.record_tree.proofs.Leading.{twin_found}
 use Rattle.record_tree.proofs.records.Records.twin.Goals as goal
