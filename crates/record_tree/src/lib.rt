@@ -1,5 +1,4 @@
-//! The records of one side of a partition, over any `Shelf`: found by their root keys and by pointers, inserted, cut out
-//! and replaced.
+//! The records of one side of a partition, over any `Shelf`: found by their root keys and by pointers, and replaced.
 //!
 //! A side has its cells (`SideCells`) and its root set (`KeyedSet`), whose rows lead from a root key to the address of
 //! a root. Below a root go pointers: to the first child of each child type, and from twin to twin.
@@ -13,16 +12,14 @@
 //! the condition of each call, and each gives it back. After a fault the shelf is to be forgotten.
 //!
 //! `records.rt` has `Records`, `open.rt` opens them; `sides.rt` what a definition says of a side
-//! `roots.rt` finds roots by key, `links.rt` cells, and what they lead to
+//! `roots.rt` finds roots by key, `links.rt` cells, and what they lead to; `replace.rt` replaces a content
 #![tactic(auto)]
 
 mod links;
 mod open;
-mod place;
 mod records;
 mod replace;
 mod roots;
 mod sides;
 
-pub use place::Place;
 pub use records::Records;
