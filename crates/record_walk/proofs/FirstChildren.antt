@@ -69,7 +69,7 @@ stays_on schema total s u new e follows stays =
     ∙ stays_by (is_first schema new.code) (λ a b. cond (s.code == 1) (root_cmp schema a b) (key_cmp a b)) (order_total schema total s.code) (k s) (k u) (k new) (twin_cmp schema (row_of s) (row_of u)) (cond (s.code == 1) (root_cmp schema (k u) (k new)) (key_cmp (k u) (k new)))
     cmp refl (le_is (has_unique_key schema.types s.code) (twin_cmp schema (row_of s) (row_of u)) follows) stays
 
-all_stay : (schema : Schema) → IsTotalOrder (root_cmp schema) → (code : ℕ) (new : Occurrence) (twins : Twins) → are_of schema.types code twins ≡ true → twins_follow schema twins ≡ true
+pub all_stay : (schema : Schema) → IsTotalOrder (root_cmp schema) → (code : ℕ) (new : Occurrence) (twins : Twins) → are_of schema.types code twins ≡ true → twins_follow schema twins ≡ true
     → ((s : Occurrence) (below : Chains) (next : Twins) → twins ≡ segment s below next → stays_behind schema new s ≡ true) → list_all (stays_behind schema new) (heads_of twins) ≡ true
 all_stay schema total code new no_segment h f first = refl
 all_stay schema total code new (segment s below next) h f first =
@@ -83,7 +83,7 @@ all_stay schema total code new (segment s below next) h f first =
 
 -- ---- a chain at its place
 
-record AtPlace (schema : Schema) (level code : ℕ) (parent : Option Ilk) (change : Twins → Twins) (leads : ℕ) (cells : ℕ → Option Cell) (old now : List Placed) : Type 0 where
+pub record AtPlace (schema : Schema) (level code : ℕ) (parent : Option Ilk) (change : Twins → Twins) (leads : ℕ) (cells : ℕ → Option Cell) (old now : List Placed) : Type 0 where
   pub before : Chains
   pub codes : List ℕ
   pub at_level : AtLevel schema.types level codes
@@ -106,7 +106,7 @@ all_at n [] place code h e = cc
 all_at n (c ∷ codes) zero code h e = let l = h.0 in let same : c ≡ code = same_some c code e in omega (arith, l, same)
 all_at n (c ∷ codes) (suc place) code h e = all_at n codes place code (h.1) e
 
-at_place : (schema : Schema) (level : ℕ) (codes : List ℕ) → AtLevel schema.types level codes → Climbing codes → (parent : Option Ilk) (change : Twins → Twins) (cells : ℕ → Option Cell) (place code : ℕ) (chains : Chains) → are_chains_of schema.types codes chains ≡ true
+pub at_place : (schema : Schema) (level : ℕ) (codes : List ℕ) → AtLevel schema.types level codes → Climbing codes → (parent : Option Ilk) (change : Twins → Twins) (cells : ℕ → Option Cell) (place code : ℕ) (chains : Chains) → are_chains_of schema.types codes chains ≡ true
     → HangIn cells chains → slice_get codes place ≡ Some code → AtPlace schema level code parent change (slice_index (firsts_of chains) place) cells (list_in parent chains) (list_in parent (with_chain place change chains))
 at_place schema level [] all climb parent change cells place code chains h hang e = cc
 at_place schema level (c ∷ codes) all climb parent change cells place code no_chain h hang e = absurd (false≢true h)
@@ -234,15 +234,15 @@ mutual
       (among_append p (list_of parent twins) (list_in parent more) a)
 
 -- of another name and another parent
-abbrev off : Schema → Occurrence → Ilk → Placed → Bool
+abbrev pub off : Schema → Occurrence → Ilk → Placed → Bool
 off schema new name p = not (stands_before schema (placed (Some name) new).row p.row)
 
-stranger : (schema : Schema) (new : Occurrence) (name : Ilk) (p : Placed) → (p.row.name ≡ name → ⊥) → (p.row.parent ≡ Some name → ⊥) → off schema new name p ≡ true
+pub stranger : (schema : Schema) (new : Occurrence) (name : Ilk) (p : Placed) → (p.row.name ≡ name → ⊥) → (p.row.parent ≡ Some name → ⊥) → off schema new name p ≡ true
 stranger schema new name p a b =
     strange schema (placed (Some name) new).row p.row (truth_off (same_name p.row.name name) (λ e. a (name_is p.row.name name e))) (truth_off (same_parent p.row.parent (Some name)) (λ e. b (parents_are p.row.parent (Some name) e)))
 
 -- a twin that stays behind, and a child of a higher code
-twin_off : (schema : Schema) (new u : Occurrence) (name : Ilk) → (u.name ≡ name → ⊥) → u.code ≡ new.code → stays_behind schema new u ≡ true → off schema new name (placed (Some name) u) ≡ true
+pub twin_off : (schema : Schema) (new u : Occurrence) (name : Ilk) → (u.name ≡ name → ⊥) → u.code ≡ new.code → stays_behind schema new u ≡ true → off schema new name (placed (Some name) u) ≡ true
 twin_off schema new u name a e stays =
     stands_off schema (placed (Some name) new).row (placed (Some name) u).row (truth_off (same_name u.name name) (λ f. a (name_is u.name name f)))
     (ap (λ (b : Bool). same_name name name && b) (le-ltb u.code new.code (omega (arith, e))) ∙ right (same_name name name))
@@ -289,23 +289,53 @@ inserted_placed schema new parent head last tail back before b =
 -- ---- a first child
 
 -- the rows of segments are among those of their chains
-head_among : (q : Option Ilk) (w : Twins) (u : Occurrence) → Among u (heads_of w) → Among (placed q u) (list_of q w)
+pub head_among : (q : Option Ilk) (w : Twins) (u : Occurrence) → Among u (heads_of w) → Among (placed q u) (list_of q w)
 head_among q no_segment u a = absurd a
 head_among q (segment v under later) u (inl e) = inl (ap (placed q) e)
 head_among q (segment v under later) u (inr a) = inr (among_right (placed q u) (list_in (Some v.name) under) (list_of q later) (head_among q later u a))
 
-heads_among : (q : Option Ilk) (w : Chains) (u : Occurrence) → Among u (heads_in w) → Among (placed q u) (list_in q w)
+pub heads_among : (q : Option Ilk) (w : Chains) (u : Occurrence) → Among u (heads_in w) → Among (placed q u) (list_in q w)
 heads_among q no_chain u a = absurd a
 heads_among q (chain v m) u a = either {P = Among u (heads_of v)} {Q = Among u (heads_in m)} {R = Among (placed q u) (list_of q v ++ list_in q m)} (λ k. among_left (placed q u) (list_of q v) (list_in q m) (head_among q v u k))
     (λ k. among_right (placed q u) (list_of q v) (list_in q m) (heads_among q m u k)) (among_append u (heads_of v) (heads_in m) a)
 
 -- what is known of the place of a new first child
-record Found (schema : Schema) (cells : ℕ → Option Cell) (new : Occurrence) (parent : Option Ilk) (s : Occurrence) (below : Chains) (next : Twins) (front back : List Placed) : Type 0 where
+pub record Found (schema : Schema) (cells : ℕ → Option Cell) (new : Occurrence) (parent : Option Ilk) (s : Occurrence) (below : Chains) (next : Twins) (front back : List Placed) : Type 0 where
   pub fence : Fence parent s below next front back
   pub level : level_of schema.types new.code ≡ level_of schema.types s.code + 1
   pub own : are_of schema.types s.code (segment s below next) ≡ true
   pub upto : starts_upto schema.types (level_of schema.types s.code) back ≡ true
   pub others : (p : Placed) → Among p (list_in (Some s.name) below ++ (list_of parent next ++ back)) → p.row.name ≡ s.name → ⊥
+
+-- twins of the parent, what is below them, and all behind, needn't stand before a new child
+pub rest_passes : (schema : Schema) (cells : ℕ → Option Cell) (new : Occurrence) (parent : Option Ilk) (s : Occurrence) (below : Chains) (next : Twins) (front back : List Placed) → Found schema cells new parent s below next front back
+    → list_all (off schema new s.name) (list_of parent next ++ back) ≡ true
+rest_passes schema cells new parent s below next front back f =
+    let t = topped parent s below next f.fence.own in
+    all_among (off schema new s.name) (list_of parent next ++ back)
+    (λ p a. stranger schema new s.name p (f.others p (among_right p (list_in (Some s.name) below) (list_of parent next ++ back) a)) (λ e. not_child f t p a e))
+  where
+    next_off : Found schema cells new parent s below next front back → Topped parent s below next → (p : Placed) → p.row.parent ≡ Some s.name → Under parent (list_of parent next) p → ⊥
+    next_off f t p e (Top g) = f.fence.own.fresh (placed parent s) (inl refl) (sym g ∙ e)
+    next_off f t p e (Inner q m g) = t.off_high q m (same_some s.name q.row.name (sym e ∙ g))
+
+    not_child : Found schema cells new parent s below next front back → Topped parent s below next → (p : Placed) → Among p (list_of parent next ++ back) → p.row.parent ≡ Some s.name → ⊥
+    not_child f t p a e = either {P = Among p (list_of parent next)} {Q = Among p back} {R = ⊥} (λ m. next_off f t p e (under parent next p m)) (λ m. f.fence.behind p m e) (among_append p (list_of parent next) back a)
+
+-- children of higher codes needn't either
+pub more_pass : (schema : Schema) (new : Occurrence) (name : Ilk) (more : Chains) → Named (Some name) (list_in (Some name) more) → ((p : Placed) → Among p (list_in (Some name) more) → p.row.name ≡ name → ⊥)
+    → ((u : Occurrence) → Among u (heads_in more) → new.code < u.code) → list_all (off schema new name) (list_in (Some name) more) ≡ true
+more_pass schema new name more named other high =
+    heads_tell_in (off schema new name) (Some name) more named (λ p a strange_row. stranger schema new name p (other p a) strange_row)
+    ∙ all_among (λ u. off schema new name (placed (Some name) u)) (heads_in more) (λ u a. higher_off schema new u name (λ e. other (placed (Some name) u) (heads_among (Some name) more u a) e) (high u a))
+
+-- twins that stay behind the new one
+pub twins_pass : (schema : Schema) (new : Occurrence) (name : Ilk) (twins : Twins) → Named (Some name) (list_of (Some name) twins) → ((p : Placed) → Among p (list_of (Some name) twins) → p.row.name ≡ name → ⊥)
+    → are_of schema.types new.code twins ≡ true → list_all (stays_behind schema new) (heads_of twins) ≡ true → list_all (off schema new name) (list_of (Some name) twins) ≡ true
+twins_pass schema new name twins named other typed_twins stays =
+    heads_tell (off schema new name) (Some name) twins named (λ p a strange_row. stranger schema new name p (other p a) strange_row)
+    ∙ all_among (λ u. off schema new name (placed (Some name) u)) (heads_of twins)
+    (λ u a. twin_off schema new u name (λ e. other (placed (Some name) u) (head_among (Some name) twins u a) e) (head_codes schema.types new.code twins typed_twins u a) (among_passes (stays_behind schema new) u (heads_of twins) a stays))
 
 child_found : SchemasAreKept → (schema : Schema) (cells : ℕ → Option Cell) (new : Occurrence) (kinds : ℕ) (parent : Option Ilk) (s : Occurrence) (below : Chains) (next : Twins) (front back : List Placed) (leads : ℕ) (change : Chains)
     → Found schema cells new parent s below next front back → (y : AtPlace schema (level_of schema.types s.code + 1) new.code (Some s.name) (before_twins new kinds) leads cells (list_in (Some s.name) below) (list_in (Some s.name) change))
@@ -360,24 +390,13 @@ child_found kept schema cells new kinds parent s below next front back leads cha
     other p a = f.others p (among_left p (list_in name below) rest (subst (λ (l : List Placed). Among p l) (sym y.was) a))
 
     twins_off : list_all test twins ≡ true
-    twins_off =
-        heads_tell test name y.twins named_twins (λ p a strange_row. stranger schema new s.name p (other p (among_right p before (twins ++ more) (among_left p twins more a))) strange_row)
-        ∙ all_among (λ u. test (placed name u)) (heads_of y.twins)
-        (λ u a. twin_off schema new u s.name (λ e. other (placed name u) (among_right (placed name u) before (twins ++ more) (among_left (placed name u) twins more (head_among name y.twins u a))) e) (head_codes types new.code y.twins y.typed u a) (among_passes (stays_behind schema new) u (heads_of y.twins) a stays))
+    twins_off = twins_pass schema new s.name y.twins named_twins (λ p a. other p (among_right p before (twins ++ more) (among_left p twins more a))) y.typed stays
 
     more_off : list_all test more ≡ true
-    more_off =
-        heads_tell_in test name y.more named_more (λ p a strange_row. stranger schema new s.name p (other p (among_right p before (twins ++ more) (among_right p twins more a))) strange_row)
-        ∙ all_among (λ u. test (placed name u)) (heads_in y.more)
-        (λ u a. higher_off schema new u s.name (λ e. other (placed name u) (among_right (placed name u) before (twins ++ more) (among_right (placed name u) twins more (heads_among name y.more u a))) e) (y.high u a))
+    more_off = more_pass schema new s.name y.more named_more (λ p a. other p (among_right p before (twins ++ more) (among_right p twins more a))) y.high
 
-    -- twins of the parent, what is below them, and all behind
     rest_off : list_all test rest ≡ true
-    rest_off = all_among test rest (λ p a. stranger schema new s.name p (f.others p (among_right p (list_in name below) rest a)) (λ e. either {P = Among p (list_of parent next)} {Q = Among p back} {R = ⊥} (λ m. next_off p e (under parent next p m)) (λ m. f.fence.behind p m e) (among_append p (list_of parent next) back a)))
-      where
-        next_off : (p : Placed) → p.row.parent ≡ Some s.name → Under parent (list_of parent next) p → ⊥
-        next_off p e (Top g) = f.fence.own.fresh top (inl refl) (sym g ∙ e)
-        next_off p e (Inner q m g) = t.off_high q m (same_some s.name q.row.name (sym e ∙ g))
+    rest_off = rest_passes schema cells new parent s below next front back f
 
     back_off : list_all test (twins ++ (more ++ rest)) ≡ true
     back_off = all_append test twins (more ++ rest) twins_off (all_append test more rest more_off rest_off)
@@ -441,6 +460,11 @@ child_found kept schema cells new kinds parent s below next front back leads cha
     by (inl e) = finish (subst (λ (l : List Placed). Goal l) (sym e) alone)
     by (inr x) = finish (behind x)
 
+pub child_of_level : (schema : Schema) (new : Occurrence) (n : ℕ) (codes : List ℕ) (k : ℕ) → AtLevel schema.types n codes → slice_get codes k ≡ Some new.code → level_of schema.types new.code ≡ n
+child_of_level schema new n [] k all e = cc
+child_of_level schema new n (c ∷ codes) zero all e = ap (level_of schema.types) (sym (same_some c new.code e)) ∙ all.0
+child_of_level schema new n (c ∷ codes) (suc k) all e = child_of_level schema new n codes k (all.1) e
+
 pub first_children_are_inserted : SchemasAreKept → ((schema : Schema) → IsTotalOrder (root_cmp schema)) → FirstChildrenAreInserted
 first_children_are_inserted kept total schema cells firsts trees above place cell new kinds r within names rise stands code next_stays =
     let types = schema.types in
@@ -459,7 +483,7 @@ first_children_are_inserted kept total schema cells firsts trees above place cel
     let apart_rows : all_pairs apart (x.front ++ top ∷ (low ++ rest)) ≡ true = subst (λ (l : List Placed). all_pairs apart l ≡ true) was named.differ in
     let found : Found schema cells new x.parent x.s x.below x.next x.front x.back = record {
       fence = x.fenced named;
-      level = child_of_level (level_of types x.s.code + 1) (child_codes types x.s.code) place (children_level types (deepens kept schema) x.s.code) at;
+      level = child_of_level schema new (level_of types x.s.code + 1) (child_codes types x.s.code) place (children_level types (deepens kept schema) x.s.code) at;
       own = x.typed;
       upto = x.upto;
       others = λ p a e. apart_names top.row p.row (among_passes (apart top) p (low ++ rest) a (pairs_at apart x.front (low ++ rest) top apart_rows).behind) (sym e);
@@ -479,11 +503,6 @@ first_children_are_inserted kept total schema cells firsts trees above place cel
   where
     some_cell : (a b : Cell) → Some a ≡ Some b → a ≡ b
     some_cell a b e = cc
-
-    child_of_level : (n : ℕ) (codes : List ℕ) (k : ℕ) → AtLevel schema.types n codes → slice_get codes k ≡ Some new.code → level_of schema.types new.code ≡ n
-    child_of_level n [] k all e = cc
-    child_of_level n (c ∷ codes) zero all e = ap (level_of schema.types) (sym (same_some c new.code e)) ∙ all.0
-    child_of_level n (c ∷ codes) (suc k) all e = child_of_level n codes k (all.1) e
 
     first : (s : Occurrence) (below : Chains) (next : Twins) → s.home ≡ leads_to (Below above place) cells firsts → Hangs cells (segment s below next) → stays_behind schema new s ≡ true
     first s below next e h = next_stays (cell_of s below next) (subst (λ (m : ℕ). 0 < m) e (h.0)) (ap cells (sym e) ∙ h.1)

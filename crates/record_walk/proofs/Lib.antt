@@ -19,3 +19,6 @@ pub mod ChangedSides
 pub mod FirstChildren
 pub mod ExampleChanges
 mod OrderedCodes
+pub mod LeadsOn
+pub mod LaterChildren
+mod RootsByKey

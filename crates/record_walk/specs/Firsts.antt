@@ -3,7 +3,7 @@ use Rattle.std.specs.Prelude.{◌≡◌, ℕ, ◌<◌, not, Bool, true, length, 
 use Rattle.std.specs.List.{slice_get}
 use Rattle.hal_schema.specs.declared.schema.Schema.{Schema}
 use Rattle.hal_schema.specs.Forest.{all_pairs, names_apart, twin_cmp, twins_rise}
-use Rattle.hal_schema.specs.Insertion.{goes_before, is_first, inserted}
+use Rattle.hal_schema.specs.Insertion.{goes_before, is_first, is_twin_before, inserted}
 use Rattle.segment_blocks.specs.declared.tile.Cell.{Cell}
 use Rattle.record_walk.specs.Tree.{Occurrence, Chains, firsts_of, times_in, child_codes, are_roots}
 use Rattle.record_walk.specs.Listing.{placed, list_in, rows_of}
@@ -11,6 +11,7 @@ use Rattle.record_walk.specs.Pointers.{Pointer, Behind, Below, Root, with_segmen
 use Rattle.record_walk.specs.Side.{heads_in, roots_rise}
 use Rattle.record_walk.specs.Siblings.{row_of}
 use Rattle.record_walk.specs.Changes.{leads_to}
+use Rattle.record_walk.specs.Leads.{stand_so}
 use Rattle.record_walk.specs.Spans.{AreRecords, IsIn}
 use Rattle.record_walk.specs.SideChanges.{segment_in}
 
@@ -31,6 +32,18 @@ FirstChildrenAreInserted =
     → twins_rise schema (rows_of (list_in None trees)) ≡ true → cells above ≡ Some cell → slice_get (child_codes schema.types cell.code) place ≡ Some new.code
     → NextStaysBehind schema (Below above place) cells firsts new
     → rows_of (list_in None (with_segment (Below above place) new kinds trees))
+    ≡ inserted schema (rows_of (list_in None trees)) (placed (Some cell.name) new).row
+
+-- Behind a twin that must stand before it, below the same parent, and before a twin that stays behind it. The list's twins stand in order, so no other
+-- has to be looked at.
+abbrev pub LaterChildrenAreInserted : Type 0
+LaterChildrenAreInserted =
+    (schema : Schema) (cells : ℕ → Option Cell) (firsts : List ℕ) (trees : Chains) (above place prior : ℕ) (cell : Cell) (new : Occurrence) (kinds : ℕ)
+    → AreRecords schema cells firsts trees → 0 < times_in above trees → 0 < times_in prior trees → all_pairs names_apart (rows_of (list_in None trees)) ≡ true
+    → twins_rise schema (rows_of (list_in None trees)) ≡ true → cells above ≡ Some cell → slice_get (child_codes schema.types cell.code) place ≡ Some new.code
+    → stand_so (λ up row. is_twin_before schema (placed (Some up.name) new).row row) above prior (list_in None trees) ≡ true
+    → NextStaysBehind schema (Behind prior) cells firsts new
+    → rows_of (list_in None (with_segment (Behind prior) new kinds trees))
     ≡ inserted schema (rows_of (list_in None trees)) (placed (Some cell.name) new).row
 
 -- as a root at the head of a row, where all roots rise with it

@@ -18,3 +18,5 @@ pub mod OneProof
 pub mod Examples
 pub mod ChangeExamples
 pub mod Orders
+pub mod Leads
+pub mod ByKey

@@ -1,4 +1,4 @@
-ghost use Rattle.record_walk.specs.Firsts.{FirstChildrenAreInserted, FirstRootsAreInserted, LaterRootsAreInserted};
+ghost use Rattle.record_walk.specs.Firsts.{FirstChildrenAreInserted, FirstRootsAreInserted, LaterChildrenAreInserted, LaterRootsAreInserted};
 
 use hal_schema::schemas_are_kept;
 use partition_select::root_order_is_total;
@@ -6,6 +6,14 @@ use partition_select::root_order_is_total;
 /// A new segment that came as a first child was inserted at its place.
 pub fn first_children_are_inserted()
     ensures { FirstChildrenAreInserted }
+{
+    schemas_are_kept();
+    root_order_is_total();
+}
+
+/// A new segment that came behind a twin was inserted at its place.
+pub fn later_children_are_inserted()
+    ensures { LaterChildrenAreInserted }
 {
     schemas_are_kept();
     root_order_is_total();

@@ -1,0 +1,5 @@
+pub mod Sides
+pub mod Standing
+pub mod OneProof
+pub mod Finding
+pub mod Changing
