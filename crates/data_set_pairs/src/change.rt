@@ -139,7 +139,8 @@ pub(crate) fn plan<B: Blocks>(
     ensures anew { IfOk result (λ change. (RaisesNumber states.now.items place state.now → ⊥)
         → IfSome change.table (λ t. IsTable control (B.seen blocks.old).number t.pages.items (reverse t.free.items))) }
     ensures stands { IfOk result (λ change. (RaisesNumber states.now.items place state.now → ⊥)
-        → IfSome change.table (λ t. IfSome (B.seen blocks.old).list (TableStands indexes change.states.items control t.pages.items (reverse t.free.items)))) }
+        → IfSome change.table (λ t. IfSome (B.seen blocks.old).list
+        (TableStands indexes change.states.items control t.pages.items (reverse t.free.items)))) }
     ensures block { IfOk result (λ change. IfSome (B.seen blocks.old).list
         (λ list. change.block ≡ with_row (place % 32) (control_row state.now) (slice_index_or list (place / 32) []))) }
     ensures looks { Looks (B.steady blocks.old blocks.new) (B.seen blocks.old) (B.seen blocks.new) }

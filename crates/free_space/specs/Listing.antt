@@ -33,4 +33,5 @@ rise_from from (placed ∷ list) = nat_le from placed.at && rise_from (placed.at
 
 -- where the pages are told, these are the cells of page n
 abbrev pub ListsPage : SetId → List Shape → ShelfView → ℕ → List PlacedCell → Type 0
-ListsPage set shapes shelf n list = (pages : List (List ℕ)) (page : List ℕ) → shelf.pages set ≡ Some pages → slice_get pages n ≡ Some page → list ≡ placed_among set n (tiles_of shapes page)
+ListsPage set shapes shelf n list =
+    (pages : List (List ℕ)) (page : List ℕ) → shelf.pages set ≡ Some pages → slice_get pages n ≡ Some page → list ≡ placed_among set n (tiles_of shapes page)

@@ -33,9 +33,10 @@ NoneAtZero = (side : SideCells) (shelf : ShelfView) (at : ℕ) (cell : Cell) →
 -- The lists of a letter's pages, one behind the other, have at each address of the letter the cell that stands there, and
 -- their addresses rise.
 pub record PagesListTheCells : Type 0 where
-  pub listed : (side : SideCells) (shelf : ShelfView) (place : ℕ) (pages : List (List ℕ)) (at : ℕ) → StandsForSide side shelf → place < 10 → shelf.pages (lettered side.first place) ≡ Some pages
-      → All (λ page. length page ≡ 4096) pages → length pages ≤ 65536 → place_at at ≡ place
+  pub listed : (side : SideCells) (shelf : ShelfView) (place : ℕ) (pages : List (List ℕ)) (at : ℕ) → StandsForSide side shelf → place < 10
+      → shelf.pages (lettered side.first place) ≡ Some pages → All (λ page. length page ≡ 4096) pages → length pages ≤ 65536 → place_at at ≡ place
       → listed_at at (placed_from (lettered side.first place) 0 (layout_of side.shapes pages)) ≡ cells_of side shelf at
   pub rise : (side : SideCells) (shelf : ShelfView) (place : ℕ) (pages : List (List ℕ)) → StandsForSide side shelf → place < 10 → shelf.pages (lettered side.first place) ≡ Some pages
       → All (λ page. length page ≡ 4096) pages → rise_from (address (lettered side.first place) 0 0) (placed_from (lettered side.first place) 0 (layout_of side.shapes pages)) ≡ true
-  pub one_more : (set : SetId) (n : ℕ) (layout : List (List Tile)) (tiles : List Tile) → placed_from set n (layout ++ tiles ∷ []) ≡ placed_from set n layout ++ placed_among set (n + length layout) tiles
+  pub one_more : (set : SetId) (n : ℕ) (layout : List (List Tile)) (tiles : List Tile)
+      → placed_from set n (layout ++ tiles ∷ []) ≡ placed_from set n layout ++ placed_among set (n + length layout) tiles
