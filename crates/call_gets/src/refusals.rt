@@ -4,7 +4,8 @@ ghost use Rattle.std.specs.List.{list_all, list_any, last_or, slice_get};
 ghost use Rattle.std.specs.Option.{option_map_or};
 ghost use Rattle.hal_schema.specs.SegType.{is_parent_code};
 ghost use Rattle.dli_calls.specs.Gets.{is_get, is_within_parent};
-ghost use Rattle.dli_calls.specs.Refusals.{any_subject, each_next, first_that_holds, has_odd_code, has_odd_operator, is_bare, is_below_type, is_delete, is_in_subtree, is_insert, is_malformed, is_misfit, is_off_path, is_replace, is_unknown, text_refusals};
+ghost use Rattle.dli_calls.specs.Refusals.{any_subject, each_next, first_that_holds, has_odd_code, has_odd_operator, is_bare, is_below_type, is_delete};
+ghost use Rattle.dli_calls.specs.Refusals.{is_in_subtree, is_insert, is_malformed, is_misfit, is_off_path, is_replace, is_unknown, text_refusals};
 ghost use Rattle.call_gets.specs.Texts.{codes_in, later_of, stand_so};
 ghost use Rattle.dli_calls.specs.Ssas.{asks_data, code_named, index_of};
 
