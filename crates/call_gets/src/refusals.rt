@@ -163,13 +163,15 @@ fn is_off_path(schema: &Schema, session: &Session, call: &Call) -> bool
 
 fn gets_off_path(schema: &Schema, session: &Session, call: &Call) -> bool
     ensures { result ≡ (is_get call.now && not (each_next (is_below_type schema.now) (codes_in schema.now call.now.ssas)
-        && option_map_or (λ i. list_all (is_in_subtree schema.now i.target) (codes_in schema.now call.now.ssas)) (index_of schema.now session.now.index) true)) }
+        && option_map_or (λ i. list_all (is_in_subtree schema.now i.target) (codes_in schema.now call.now.ssas))
+        (index_of schema.now session.now.index) true)) }
 {
     is_get(call) && !goes_down(schema, session.index, call.ssas.as_slice())
 }
 
 fn inserts_off_path(schema: &Schema, call: &Call) -> bool
-    ensures { result ≡ (is_insert call.now && nat_lt 1 (length call.now.ssas) && not (option_map_or (λ code. code == 1) (slice_get (codes_in schema.now call.now.ssas) 0) false
+    ensures { result ≡ (is_insert call.now && nat_lt 1 (length call.now.ssas)
+        && not (option_map_or (λ code. code == 1) (slice_get (codes_in schema.now call.now.ssas) 0) false
         && each_next (is_parent_code schema.now.types) (codes_in schema.now call.now.ssas))) }
 {
     inserts_by_path(call) && !leads_down(schema, call.ssas.as_slice())
@@ -259,7 +261,8 @@ fn is_within(schema: &Schema, target: u8, code: Option<u8>) -> bool
 
 /// An ISRT's path starts at the root and leaves out no level.
 fn leads_down(schema: &Schema, ssas: &[Ssa]) -> bool
-    ensures { result ≡ (option_map_or (λ code. code == 1) (slice_get (codes_in schema.now ssas.now) 0) false && each_next (is_parent_code schema.now.types) (codes_in schema.now ssas.now)) }
+    ensures { result ≡ (option_map_or (λ code. code == 1) (slice_get (codes_in schema.now ssas.now) 0) false
+        && each_next (is_parent_code schema.now.types) (codes_in schema.now ssas.now)) }
 {
     begins_at_root(schema, ssas) && leaves_out_none(schema, ssas)
 }
