@@ -1,5 +1,5 @@
 -- The decision of a get, by what its text says and what it finds.
-use Rattle.std.proofs.Common.{◌≡◌, ℕ, ◌==◌, Bool, true, false, not, cond, ◌&&◌, ◌||◌, ◌⊎◌, inl, inr, List, [], ◌∷◌, length, Option, None, Some, refl, sym, ap, subst, ◌∙◌, arith}
+use Rattle.std.proofs.Common.{◌≡◌, ℕ, ◌==◌, Bool, true, false, not, cond, ◌&&◌, ◌||◌, ◌⊎◌, inl, inr, List, [], ◌∷◌, length, Option, None, Some, refl, sym, ap, ◌∙◌, arith}
 use Rattle.std.specs.Prelude.{codes, nat_lt, is_some, is_none}
 use Rattle.std.specs.List.{list_all, list_any}
 use Rattle.std.specs.Option.{option_map, option_map_or}
@@ -25,7 +25,7 @@ use Rattle.hal_schema.specs.Span.{keeps_freely}
 use Rattle.dli_calls.specs.Changes.{has_parent, inserted_code, held_code, held_row, content_for, content_or_none, new_row, no_name, need_of_insert, need_of_replace}
 use Rattle.dli_calls.specs.declared.decision.Decision.{Decision}
 use Rattle.dli_calls.specs.Gets.{OnPath, got_status, got_segment, shown_content, after_get, name_of_type, is_get, is_next, is_unique, got}
-use Rattle.dli_calls.specs.Refusals.{allows, first_that_holds, is_insert, is_replace, is_delete, text_refusals, view_refusals, refusal_of, has_no_data, asks_high_root, asks_for_high_root, inserts_high_root, finds_nothing, is_at_end, changes_key, takes_key, need_of}
+use Rattle.dli_calls.specs.Refusals.{allows, first_that_holds, is_insert, is_replace, text_refusals, view_refusals, refusal_of, has_no_data, asks_high_root, asks_for_high_root, inserts_high_root, finds_nothing, is_at_end, changes_key, takes_key, need_of}
 use Rattle.dli_calls.specs.Decided.{healing, decision_of, carried_out, refused, found, inserts, changes_held, reply_of, after_refusal}
 
 -- ---- GU and GN are gets, and no other calls

@@ -1,6 +1,6 @@
 -- What a scan from a place finds is what a get finds behind it.
-use Rattle.std.proofs.Common.{◌≡◌, ℕ, Bool, true, false, cond, not, ◌||◌, List, [], ◌∷◌, Option, None, Some, Result, Ok, Err, refl, sym, ap, subst, ◌∙◌}
-use Rattle.std.specs.Prelude.{find, filter, slice_get, All, IfOk, IfSome, IsTrue}
+use Rattle.std.proofs.Common.{◌≡◌, ℕ, Bool, true, false, cond, ◌||◌, List, [], ◌∷◌, Option, None, Some, Result, Ok, Err, refl, sym, ap, subst, ◌∙◌}
+use Rattle.std.specs.Prelude.{find, filter, IfOk, IfSome, IsTrue}
 use Rattle.std.specs.Option.{option_map_or}
 use Rattle.std.specs.Str.{bytes_eq}
 use Rattle.hal_schema.specs.declared.schema.Schema.{Schema}
@@ -12,7 +12,7 @@ use Rattle.position_state.specs.declared.session.Session.{Session}
 use Rattle.position_state.specs.declared.session.Anchor.{Anchor}
 use Rattle.position_state.specs.declared.session.Anchor.TheVariants.{Front, At}
 use Rattle.position_state.specs.declared.spot.Spot.{Spot}
-use Rattle.position_state.specs.View.{view_of, is_at, is_place_of, root_named, behind}
+use Rattle.position_state.specs.View.{view_of, is_place_of, root_named, behind}
 use Rattle.position_state.specs.Looks.{WalkView, found_at, first_behind, stands_in}
 use Rattle.dli_calls.specs.Meets.{meets, on_paths}
 use Rattle.dli_calls.specs.Gets.{OnPath, is_unique, is_next, is_below_parent, looked_at, got, paths_behind}

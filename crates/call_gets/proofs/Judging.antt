@@ -1,9 +1,9 @@
 -- Which elements meet SSAs, and which paths no element below can meet them by.
-use Rattle.std.proofs.Common.{◌≡◌, ℕ, ◌==◌, ◌<◌, Bool, true, false, not, cond, ◌&&◌, List, [], ◌∷◌, ◌++◌, length, drop, get_or, Option, None, Some, refl, sym, ap, subst, ◌∙◌, arith}
+use Rattle.std.proofs.Common.{◌≡◌, ℕ, ◌==◌, ◌<◌, Bool, true, false, not, cond, ◌&&◌, List, [], ◌∷◌, ◌++◌, length, get_or, Option, None, Some, refl, sym, ap, subst, ◌∙◌}
 use Rattle.std.specs.Prelude.{find, is_some, All}
-use Rattle.std.specs.List.{list_all, list_any, last_or}
+use Rattle.std.specs.List.{list_all, last_or}
 use Rattle.std.specs.Option.{option_map, option_map_or, option_and_then, option_or}
-use Rattle.std.proofs.lemmas.Bool.{and_left, and_right, and_from}
+use Rattle.std.proofs.lemmas.Bool.{and_right}
 use Rattle.std.proofs.lemmas.List.Elements.{All-head, All-tail}
 use Rattle.std.proofs.lemmas.List.Folds.{find-append, list_all_at}
 use Rattle.hal_schema.specs.declared.schema.Schema.{Schema}
@@ -13,7 +13,7 @@ use Rattle.dli_calls.specs.Ssas.{code_named}
 use Rattle.dli_calls.specs.Meets.{holds_on, ssa_holds, is_of, meets}
 use Rattle.call_gets.specs.Scan.{IsClosed, IsOn, IsVerdict, of_ssa}
 use Rattle.call_gets.specs.declared.judged.Verdict.{Verdict}
-use Rattle.call_gets.specs.declared.judged.Verdict.TheVariants.{Meets, Open, Closed}
+use Rattle.call_gets.specs.declared.judged.Verdict.TheVariants.{Meets, Open}
 
 -- ---- one SSA on a path
 

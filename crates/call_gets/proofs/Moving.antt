@@ -1,8 +1,7 @@
 -- One step of a scan, and many.
 use Rattle.std.proofs.Common.{◌≡◌, ℕ, ◌<◌, ◌≤◌, Bool, true, false, cond, ◌&&◌, List, [], ◌∷◌, ◌++◌, Option, None, Some, refl, sym, ap, subst, ◌∙◌, arith}
-use Rattle.std.specs.Prelude.{nat_le, nat_lt, filter, slice_get, All, IfSome}
+use Rattle.std.specs.Prelude.{nat_le, nat_lt, slice_get, All, IfSome}
 use Rattle.std.specs.List.{list_all}
-use Rattle.std.specs.Option.{option_map, option_map_or}
 use Rattle.std.proofs.lemmas.Bool.{and_from, ltb-true, lt-ltb, le-leb, le-ltb}
 use Rattle.std.proofs.lemmas.List.{append-nil}
 use Rattle.std.proofs.lemmas.List.Elements.{filter-append, All-filter, All-push}
@@ -15,11 +14,10 @@ use Rattle.position_state.specs.View.{behind}
 use Rattle.position_state.specs.Looks.{past, first_behind}
 use Rattle.dli_calls.specs.Meets.{meets}
 use Rattle.dli_calls.specs.Gets.{OnPath}
-use Rattle.call_gets.specs.declared.scan.Step.{Step}
 use Rattle.call_gets.specs.declared.scan.Step.TheVariants.{Ends, GoesOn}
 use Rattle.call_gets.specs.Scan.{AreFound, IsFound, IsClosed, IsStep, from_on, is_inside, first_inside, met_from}
 use Rattle.call_gets.proofs.Stepping.{Differ, ends_behind, next_of, passed, Passed}
-use Rattle.call_gets.proofs.Skipping.{level, kept, kept_low, kept_none, kept_kept, kept_is_low, outside, meets_here, goes_below, skip}
+use Rattle.call_gets.proofs.Skipping.{level, kept, kept_low, kept_is_low, outside, meets_here, goes_below, skip}
 
 -- what is left to be found is what there was to be found
 pub record Moved (schema : Schema) (view : List Spot) (ssas : List Ssa) (top : Option ℕ) (path : List Spot) (first : Option Spot) (now : List Spot) (next : Option Spot) : Type 0 where

@@ -1,6 +1,6 @@
 -- The path to a place of a view, climbed from its end.
 use Rattle.std.proofs.Common.{◌≡◌, ℕ, suc, ◌+◌, ◌<◌, ◌≤◌, Bool, true, false, not, cond, ◌&&◌, List, [], ◌∷◌, ◌++◌, drop, Option, None, Some, refl, sym, ap, subst, ◌∙◌, arith}
-use Rattle.std.specs.Prelude.{nat_le, nat_lt, filter, find, All}
+use Rattle.std.specs.Prelude.{nat_le, nat_lt, find, All}
 use Rattle.std.specs.List.{list_all, last_or, position_or_len, after_first}
 use Rattle.std.specs.Option.{option_map_or, option_or}
 use Rattle.std.proofs.lemmas.Bool.{and_from, ltb-true, ltb-false, le-leb, le-ltb}
@@ -17,7 +17,7 @@ use Rattle.position_state.specs.Looks.{found_at, above}
 use Rattle.dli_calls.specs.Meets.{on_paths}
 use Rattle.dli_calls.specs.Gets.{OnPath, paths_behind}
 use Rattle.call_gets.specs.Scan.{IsFound, IsPath, path_of}
-use Rattle.call_gets.proofs.Stepping.{Differ, Parts, place_parts}
+use Rattle.call_gets.proofs.Stepping.{Differ, place_parts}
 use Rattle.call_gets.proofs.Skipping.{level, kept, kept_low, kept_kept, kept_is_low}
 
 -- the path to an element, by what stands before it

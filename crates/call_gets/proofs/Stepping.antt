@@ -1,6 +1,6 @@
 -- From element to element of a view in which no two have one place.
-use Rattle.std.proofs.Common.{◌≡◌, ℕ, zero, suc, ◌+◌, ◌<◌, ◌≤◌, take, drop, Bool, true, false, not, cond, ◌&&◌, List, [], ◌∷◌, ◌++◌, Option, None, Some, refl, sym, ap, subst, ◌∙◌, arith}
-use Rattle.std.specs.Prelude.{nat_le, nat_lt, find, slice_get, IfSome, IsTrue}
+use Rattle.std.proofs.Common.{◌≡◌, ℕ, zero, suc, ◌+◌, ◌≤◌, take, drop, Bool, true, false, cond, List, [], ◌∷◌, ◌++◌, Option, Some, refl, sym, ap, ◌∙◌}
+use Rattle.std.specs.Prelude.{nat_le, nat_lt, find, slice_get, IfSome}
 use Rattle.std.specs.List.{list_all, position_or_len}
 use Rattle.std.proofs.lemmas.Bool.{and_from, leb-true, leb-false, lt-ltb}
 use Rattle.std.proofs.lemmas.List.{append_assoc}
@@ -8,7 +8,7 @@ use Rattle.position_state.specs.declared.session.Anchor.{Anchor}
 use Rattle.position_state.specs.declared.session.Anchor.TheVariants.{Front, At}
 use Rattle.position_state.specs.declared.spot.Spot.{Spot}
 use Rattle.position_state.specs.View.{is_at, behind, is_place_of}
-use Rattle.position_state.specs.Looks.{found_at, past, first_behind}
+use Rattle.position_state.specs.Looks.{found_at}
 use Rattle.view_laws.specs.Views.{IsInItsPlace}
 use Rattle.call_gets.specs.Scan.{IsFound, from_on}
 

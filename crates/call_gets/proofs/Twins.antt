@@ -2,7 +2,7 @@
 use Rattle.std.proofs.Common.{◌≡◌, ℕ, suc, ◌+◌, ◌==◌, ◌<◌, ◌≤◌, Bool, true, false, cond, ◌&&◌, ◌||◌, List, [], ◌∷◌, ◌++◌, take, Option, None, Some, refl, sym, ap, subst, ◌∙◌, arith}
 use Rattle.std.specs.Prelude.{nat_le, nat_lt, filter, take_while, IfSome}
 use Rattle.std.specs.List.{list_all, list_any, prefix_len}
-use Rattle.std.proofs.lemmas.Bool.{true≢false, and_parts, and_cases, eqb-true, false_from_ne_true, ltb-true, le-leb, lt-leb}
+use Rattle.std.proofs.lemmas.Bool.{and_parts, eqb-true, false_from_ne_true, ltb-true, le-leb, lt-leb}
 use Rattle.std.proofs.lemmas.List.Folds.{list_all-append}
 use Rattle.hal_schema.specs.declared.schema.SegType.{SegType}
 use Rattle.hal_schema.specs.SegType.{level_of}
@@ -10,7 +10,7 @@ use Rattle.position_state.specs.declared.spot.Spot.{Spot}
 use Rattle.position_state.specs.View.{behind}
 use Rattle.position_state.specs.Looks.{past}
 use Rattle.call_gets.specs.Scan.{IsFound, from_on}
-use Rattle.call_gets.proofs.Stepping.{Differ, Parts, place_parts, Ends, ends_behind, Passed, passed}
+use Rattle.call_gets.proofs.Stepping.{Differ, place_parts, Ends, ends_behind, Passed, passed}
 
 -- what the laws of views say of one view
 pub record Keeps (types : List SegType) (view : List Spot) : Type 0 where

@@ -96,7 +96,8 @@ abbrev pub on_its_path : Met → OnPath
 on_its_path met = (met.above.items ++ met.spot ∷ [], met.spot)
 
 abbrev pub IsFirstMet : Schema → WalkView → List Ssa → Option ℕ → List Spot → Option Spot → Option Met → Type 0
-IsFirstMet schema seen ssas top path next met = IfSome seen.forest (λ rows. option_map on_its_path met ≡ met_from schema (plain_view schema rows) ssas top path next)
+IsFirstMet schema seen ssas top path next met =
+    IfSome seen.forest (λ rows. option_map on_its_path met ≡ met_from schema (plain_view schema rows) ssas top path next)
 
 -- what one step of a scan leaves to be found: nothing, since this is it, or what it finds that goes on at another element
 abbrev pub IsStep : Schema → List Spot → List Ssa → Option ℕ → Option OnPath → List Spot → Step → Type 0

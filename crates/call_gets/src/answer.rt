@@ -177,7 +177,8 @@ fn got_status<W: Walk>(
 ) -> Result<[u8; 2], WalkFault>
     requires live { IsTrue (W.seen walk.old).live }
     requires plain { session.now.index ≡ None }
-    ensures status { IfOk result (λ status. IfSome (W.seen walk.old).forest (λ rows. status ≡ got_status (W.seen walk.old).schema rows call.now session.now spot.now)) }
+    ensures status { IfOk result (λ status. IfSome (W.seen walk.old).forest
+        (λ rows. status ≡ got_status (W.seen walk.old).schema rows call.now session.now spot.now)) }
     ensures looked { LooksOn (IsErrOf result WalkFault.Failed) (W.seen walk.old) (W.seen walk.new) }
 {
     if is_unique(call) || call.ssas.len() != 0 {

@@ -50,7 +50,8 @@ fn is_over(group: bool, clause: &Clause) -> bool
 /// Whether the group holds with this clause, or the new group that begins with it.
 fn grouped(schema: &Schema, spot: &Spot, group: bool, clause: &Clause) -> Result<bool, Memory>
     ensures { IfOk result (λ holds. holds
-        ≡ (if clause.now.or then clause_holds schema.now None spot.now.code spot.now clause.now else group && clause_holds schema.now None spot.now.code spot.now clause.now)) }
+        ≡ (if clause.now.or then clause_holds schema.now None spot.now.code spot.now clause.now
+        else group && clause_holds schema.now None spot.now.code spot.now clause.now)) }
 {
     if !clause.or && !group {
         return Ok(false);
@@ -83,7 +84,8 @@ fn portion(content: &[u8], start: u16, bytes: u16) -> &[u8]
 /// Whether so many bytes of an element compare with a clause's value as its operator says.
 fn compares(clause: &Clause, content: &[u8], bytes: u16) -> Result<bool, Memory>
     ensures { IfOk result (λ holds. holds
-        ≡ option_map_or (λ value. option_map_or (λ test. test (key_cmp content.now value)) (operator_of clause.now.op) false) (fitted bytes clause.now.value) false) }
+        ≡ option_map_or (λ value. option_map_or (λ test. test (key_cmp content.now value)) (operator_of clause.now.op) false)
+        (fitted bytes clause.now.value) false) }
 {
     match fitted(&clause.value, bytes)? {
         None => Ok(false),

@@ -35,7 +35,8 @@ pub(crate) fn judge<W: Walk>(
     requires live { IsTrue (W.seen walk.old).live }
     requires schema { (W.seen walk.old).schema ≡ schema.now }
     requires shown { AreShown schema.now (W.seen walk.old) (above.now ++ spot.now ∷ []) None }
-    ensures verdict { IfOk result (λ verdict. IfSome (W.seen walk.old).forest (λ rows. IsVerdict schema.now (plain_view schema.now rows) ssas.now (above.now ++ spot.now ∷ []) spot.now verdict)) }
+    ensures verdict { IfOk result (λ verdict. IfSome (W.seen walk.old).forest
+        (λ rows. IsVerdict schema.now (plain_view schema.now rows) ssas.now (above.now ++ spot.now ∷ []) spot.now verdict)) }
     ensures looked { LooksOn (IsErrOf result WalkFault.Failed) (W.seen walk.old) (W.seen walk.new) }
 {
     let mut all = true;
@@ -84,7 +85,8 @@ fn holds_on<W: Walk>(
     requires live { IsTrue (W.seen walk.old).live }
     requires schema { (W.seen walk.old).schema ≡ schema.now }
     requires shown { AreShown schema.now (W.seen walk.old) (above.now ++ spot.now ∷ []) None }
-    ensures on { IfOk result (λ on. IfSome (W.seen walk.old).forest (λ rows. IsOn schema.now (plain_view schema.now rows) (above.now ++ spot.now ∷ []) ssa.now on)) }
+    ensures on { IfOk result (λ on. IfSome (W.seen walk.old).forest
+        (λ rows. IsOn schema.now (plain_view schema.now rows) (above.now ++ spot.now ∷ []) ssa.now on)) }
     ensures looked { LooksOn (IsErrOf result WalkFault.Failed) (W.seen walk.old) (W.seen walk.new) }
 {
     match of_ssa(schema, ssa, above, spot) {
@@ -164,7 +166,8 @@ fn has_later_twin<W: Walk>(
     requires schema { (W.seen walk.old).schema ≡ schema.now }
     requires shown { IsShown schema.now (W.seen walk.old) spot.now }
     ensures has { IfOk result (λ has. IfSome (W.seen walk.old).forest
-        (λ rows. has ≡ list_any (λ other. clauses_hold (clause_holds schema.now None spot.now.code other) ssa.now.clauses) (later_twins (plain_view schema.now rows) spot.now))) }
+        (λ rows. has ≡ list_any (λ other. clauses_hold (clause_holds schema.now None spot.now.code other) ssa.now.clauses)
+        (later_twins (plain_view schema.now rows) spot.now))) }
     ensures looked { LooksOn (IsErrOf result WalkFault.Failed) (W.seen walk.old) (W.seen walk.new) }
 {
     places_differ();

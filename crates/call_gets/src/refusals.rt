@@ -4,7 +4,8 @@ ghost use Rattle.std.specs.List.{list_all, list_any, last_or, slice_get};
 ghost use Rattle.std.specs.Option.{option_map_or};
 ghost use Rattle.hal_schema.specs.SegType.{is_parent_code};
 ghost use Rattle.dli_calls.specs.Gets.{is_get, is_within_parent};
-ghost use Rattle.dli_calls.specs.Refusals.{any_subject, each_next, first_that_holds, has_odd_code, has_odd_operator, is_bare, is_below_type, is_delete, is_in_subtree, is_insert, is_malformed, is_misfit, is_off_path, is_replace, is_unknown, text_refusals};
+ghost use Rattle.dli_calls.specs.Refusals.{any_subject, each_next, first_that_holds, has_odd_code, has_odd_operator, is_bare, is_below_type, is_delete};
+ghost use Rattle.dli_calls.specs.Refusals.{is_in_subtree, is_insert, is_malformed, is_misfit, is_off_path, is_replace, is_unknown, text_refusals};
 ghost use Rattle.call_gets.specs.Texts.{codes_in, later_of, stand_so};
 ghost use Rattle.dli_calls.specs.Ssas.{asks_data, code_named, index_of};
 
@@ -162,13 +163,15 @@ fn is_off_path(schema: &Schema, session: &Session, call: &Call) -> bool
 
 fn gets_off_path(schema: &Schema, session: &Session, call: &Call) -> bool
     ensures { result ≡ (is_get call.now && not (each_next (is_below_type schema.now) (codes_in schema.now call.now.ssas)
-        && option_map_or (λ i. list_all (is_in_subtree schema.now i.target) (codes_in schema.now call.now.ssas)) (index_of schema.now session.now.index) true)) }
+        && option_map_or (λ i. list_all (is_in_subtree schema.now i.target) (codes_in schema.now call.now.ssas))
+        (index_of schema.now session.now.index) true)) }
 {
     is_get(call) && !goes_down(schema, session.index, call.ssas.as_slice())
 }
 
 fn inserts_off_path(schema: &Schema, call: &Call) -> bool
-    ensures { result ≡ (is_insert call.now && nat_lt 1 (length call.now.ssas) && not (option_map_or (λ code. code == 1) (slice_get (codes_in schema.now call.now.ssas) 0) false
+    ensures { result ≡ (is_insert call.now && nat_lt 1 (length call.now.ssas)
+        && not (option_map_or (λ code. code == 1) (slice_get (codes_in schema.now call.now.ssas) 0) false
         && each_next (is_parent_code schema.now.types) (codes_in schema.now call.now.ssas))) }
 {
     inserts_by_path(call) && !leads_down(schema, call.ssas.as_slice())
@@ -258,7 +261,8 @@ fn is_within(schema: &Schema, target: u8, code: Option<u8>) -> bool
 
 /// An ISRT's path starts at the root and leaves out no level.
 fn leads_down(schema: &Schema, ssas: &[Ssa]) -> bool
-    ensures { result ≡ (option_map_or (λ code. code == 1) (slice_get (codes_in schema.now ssas.now) 0) false && each_next (is_parent_code schema.now.types) (codes_in schema.now ssas.now)) }
+    ensures { result ≡ (option_map_or (λ code. code == 1) (slice_get (codes_in schema.now ssas.now) 0) false
+        && each_next (is_parent_code schema.now.types) (codes_in schema.now ssas.now)) }
 {
     begins_at_root(schema, ssas) && leaves_out_none(schema, ssas)
 }

@@ -1,6 +1,6 @@
 -- In the view of rows whose names differ each element is found at its own place.
-use Rattle.std.proofs.Common.{◌≡◌, ℕ, suc, ◌+◌, ◌==◌, Bool, true, false, not, cond, ◌&&◌, ◌||◌, List, [], ◌∷◌, ◌++◌, map, drop, Option, None, Some, refl, sym, ap, ◌∙◌, arith}
-use Rattle.std.specs.Prelude.{find, IsTrue}
+use Rattle.std.proofs.Common.{◌≡◌, ℕ, suc, ◌+◌, ◌==◌, Bool, true, false, not, cond, ◌&&◌, List, [], ◌∷◌, ◌++◌, map, drop, Option, None, Some, refl, sym, ap, ◌∙◌, arith}
+use Rattle.std.specs.Prelude.{find}
 use Rattle.std.specs.List.{list_all, list_any, position_or_len, after_first}
 use Rattle.std.specs.Option.{option_map_or}
 use Rattle.std.specs.Str.{bytes_eq}
@@ -20,7 +20,7 @@ use Rattle.position_state.specs.declared.session.Anchor.TheVariants.{Front, At}
 use Rattle.position_state.specs.declared.spot.Spot.{Spot}
 use Rattle.position_state.specs.View.{root_key_of, plain_element, view_of, is_at, same_place, same_entry, all_before, before, behind, is_place_of, root_named}
 use Rattle.position_state.specs.Looks.{found_at}
-use Rattle.view_laws.specs.Views.{IsInItsPlace, PlacesDiffer, PlacesAreNamed, LevelsAreOfTypes}
+use Rattle.view_laws.specs.Views.{PlacesDiffer, PlacesAreNamed, LevelsAreOfTypes}
 
 and_true : (b : Bool) → (b && true) ≡ b
 and_true true = refl

@@ -1,5 +1,5 @@
-use Rattle.std.proofs.Common.{◌≡◌, ℕ, List, Option, None, Some, refl, sym, ap, ◌∙◌}
-use Rattle.std.specs.Prelude.{codes, IfSome}
+use Rattle.std.proofs.Common.{◌≡◌, ℕ, List, Option, sym, ap, ◌∙◌}
+use Rattle.std.specs.Prelude.{IfSome}
 use Rattle.std.specs.Option.{option_map}
 use Rattle.hal_schema.specs.declared.row.Row.{Row}
 use Rattle.dli_calls.specs.declared.decision.Decision.{Decision}
@@ -7,7 +7,7 @@ use Rattle.dli_calls.specs.Decided.{decision_of, found}
 use Rattle.dli_calls.specs.Gets.{got}
 use Rattle.call_gets.specs.declared.scan.Met.{Met}
 use Rattle.call_gets.specs.Scan.{on_its_path}
-use Rattle.call_gets.proofs.Deciding.{Asked, only_get, decided_text, decided_content, decided_high, decided_none, decided_found}
+use Rattle.call_gets.proofs.Deciding.{only_get, decided_text, decided_content, decided_high, decided_none, decided_found}
 use Rattle.call_gets.proofs.Finding.{if_ok}
 use Rattle.call_gets.proofs.Looking.{where_told, told_at}
 use Rattle.call_gets.proofs.answer.decide_get.Goals as goal

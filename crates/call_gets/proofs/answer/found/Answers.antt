@@ -1,10 +1,10 @@
-use Rattle.std.proofs.Common.{◌≡◌, List, Option, Some, refl, sym, ap, subst, ◌∙◌}
+use Rattle.std.proofs.Common.{◌≡◌, List, sym, ap, subst, ◌∙◌}
 use Rattle.hal_schema.specs.declared.row.Row.{Row}
 use Rattle.hal_schema.specs.declared.schema.Schema.{Schema}
 use Rattle.call_text.specs.declared.line.Ssa.{Ssa}
 use Rattle.position_state.specs.declared.spot.Change.TheVariants.{Nothing}
 use Rattle.dli_calls.specs.declared.decision.Decision.{Decision}
-use Rattle.dli_calls.specs.Decided.{found, reply_of}
+use Rattle.dli_calls.specs.Decided.{found}
 use Rattle.dli_calls.specs.Gets.{got_status, shown_content}
 use Rattle.call_gets.specs.Scan.{on_its_path}
 use Rattle.call_gets.proofs.Looking.{where_told, told_at}

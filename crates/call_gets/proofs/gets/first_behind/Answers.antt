@@ -1,4 +1,4 @@
-use Rattle.std.proofs.Common.{◌≡◌, List, Option, None, refl, sym, subst, ◌∙◌}
+use Rattle.std.proofs.Common.{◌≡◌, List, None, sym, subst, ◌∙◌}
 use Rattle.std.specs.Prelude.{find}
 use Rattle.std.specs.Option.{option_map}
 use Rattle.hal_schema.specs.declared.row.Row.{Row}
@@ -6,9 +6,8 @@ use Rattle.hal_schema.specs.declared.schema.Schema.{Schema}
 use Rattle.position_state.specs.Looks.{first_behind}
 use Rattle.dli_calls.specs.Meets.{meets, on_paths}
 use Rattle.dli_calls.specs.Gets.{paths_behind}
-use Rattle.call_gets.specs.declared.scan.Met.{Met}
 use Rattle.call_gets.specs.Scan.{IsFirstMet, IsGot, IsPath, met_from, on_its_path, plain_view}
-use Rattle.call_gets.proofs.Looking.{where_told, told_at, told_after, shows_for, differ_told, place_told}
+use Rattle.call_gets.proofs.Looking.{where_told, told_at, shows_for, differ_told, place_told}
 use Rattle.call_gets.proofs.Finding.{if_ok, begins, gets_behind}
 use Rattle.call_gets.proofs.gets.first_behind.Goals as goal
 

@@ -1,4 +1,4 @@
-use Rattle.std.proofs.Common.{arith, List, Option, None, Some, refl, sym, subst, ◌∙◌}
+use Rattle.std.proofs.Common.{arith, List, None, refl, sym, subst, ◌∙◌}
 use Rattle.hal_schema.specs.declared.row.Row.{Row}
 use Rattle.position_state.specs.declared.spot.Spot.{Spot}
 use Rattle.position_state.specs.declared.walk.WalkFault.TheVariants.{Failed}

@@ -1,11 +1,11 @@
-use Rattle.std.proofs.Common.{◌≡◌, ◌+◌, true, List, [], ◌∷◌, ◌++◌, drop, refl, sym, ◌∙◌}
+use Rattle.std.proofs.Common.{◌≡◌, ◌+◌, true, List, [], ◌∷◌, ◌++◌, drop, sym, ◌∙◌}
 use Rattle.hal_schema.specs.declared.row.Row.{Row}
 use Rattle.position_state.specs.declared.walk.WalkFault.TheVariants.{Failed}
 use Rattle.call_gets.specs.declared.judged.Verdict.TheVariants.{Closed}
-use Rattle.call_gets.specs.Scan.{IsOn, IsVerdict, AreFound, plain_view}
-use Rattle.call_gets.proofs.Judging.{AllSoFar, closed_on, so_far, judged_open, judged_last, judged_by}
+use Rattle.call_gets.specs.Scan.{IsOn, IsVerdict, plain_view}
+use Rattle.call_gets.proofs.Judging.{AllSoFar, closed_on, so_far}
 use Rattle.call_gets.proofs.Listing.{left_is}
-use Rattle.call_gets.proofs.Looking.{on_then, on_as, ok_not_err, where_told, told_at, found_after, told_after}
+use Rattle.call_gets.proofs.Looking.{on_then, on_as, ok_not_err, where_told, told_at, told_after}
 use Rattle.call_gets.proofs.judged.judge.Goals as goal
 
 pub holds_on-requires-clause-shown : goal.holds_on-requires-clause-shown

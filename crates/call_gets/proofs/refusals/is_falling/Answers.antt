@@ -1,8 +1,5 @@
-use Rattle.std.proofs.Common.{◌∙◌, ◌&&◌, sym, ap}
-use Rattle.std.specs.List.{cons_option}
+use Rattle.std.proofs.Common.{◌∙◌, sym}
 use Rattle.dli_calls.specs.Refusals.{is_below_type}
-use Rattle.dli_calls.specs.Refusals.{each_next}
-use Rattle.call_gets.specs.Texts.{codes_in}
 use Rattle.call_gets.proofs.Listing.{left_is, falls_on, falls_not}
 use Rattle.call_gets.proofs.refusals.is_falling.Goals as goal
 

@@ -1,8 +1,5 @@
-use Rattle.std.proofs.Common.{◌∙◌, ◌&&◌, sym, ap}
-use Rattle.std.specs.List.{cons_option}
+use Rattle.std.proofs.Common.{◌∙◌, sym}
 use Rattle.hal_schema.specs.SegType.{is_parent_code}
-use Rattle.dli_calls.specs.Refusals.{each_next}
-use Rattle.call_gets.specs.Texts.{codes_in}
 use Rattle.call_gets.proofs.Listing.{left_is, falls_on, falls_not}
 use Rattle.call_gets.proofs.refusals.leaves_out_none.Goals as goal
 

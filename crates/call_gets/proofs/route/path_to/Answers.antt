@@ -1,7 +1,6 @@
-use Rattle.std.proofs.Common.{List, Option, None, Some, [], ◌∷◌, refl, sym, ap, subst, ◌∙◌}
+use Rattle.std.proofs.Common.{List, refl, sym, subst, ◌∙◌}
 use Rattle.std.proofs.lemmas.Result.{err_from_is_err_and}
 use Rattle.hal_schema.specs.declared.row.Row.{Row}
-use Rattle.position_state.specs.declared.spot.Spot.{Spot}
 use Rattle.position_state.specs.declared.walk.WalkFault.TheVariants.{Failed}
 use Rattle.position_state.specs.Looks.{above, found_at}
 use Rattle.call_gets.specs.Scan.{IsPath, plain_view}

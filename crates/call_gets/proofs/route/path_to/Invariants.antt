@@ -1,6 +1,5 @@
-use Rattle.std.proofs.Common.{◌≡◌, ◌++◌}
-use Rattle.std.specs.Prelude.{All, IfSome, IsTrue}
-use Rattle.call_gets.specs.Scan.{LooksOn, IsFound, path_of, plain_view}
+use Rattle.std.specs.Prelude.{IfSome, IsTrue}
+use Rattle.call_gets.specs.Scan.{LooksOn, plain_view}
 use Rattle.call_gets.proofs.Routing.{Climbing}
 use Rattle.call_gets.proofs.route.path_to.Given as goal
 

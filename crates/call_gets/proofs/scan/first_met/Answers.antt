@@ -1,4 +1,4 @@
-use Rattle.std.proofs.Common.{List, Option, Some, refl, sym, subst, ◌∙◌}
+use Rattle.std.proofs.Common.{List, Some, refl, sym, subst, ◌∙◌}
 use Rattle.std.proofs.lemmas.Result.{err_from_is_err_and}
 use Rattle.hal_schema.specs.declared.row.Row.{Row}
 use Rattle.position_state.specs.declared.walk.WalkFault.TheVariants.{Failed}

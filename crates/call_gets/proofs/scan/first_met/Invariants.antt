@@ -1,6 +1,5 @@
-use Rattle.std.proofs.Common.{◌≡◌}
 use Rattle.std.specs.Prelude.{IfSome, IsTrue}
-use Rattle.call_gets.specs.Scan.{AreFound, LooksOn, met_from, plain_view}
+use Rattle.call_gets.specs.Scan.{LooksOn, plain_view}
 use Rattle.call_gets.proofs.Moving.{Moved}
 use Rattle.call_gets.proofs.scan.first_met.Given as goal
 

@@ -1,4 +1,4 @@
-use Rattle.std.proofs.Common.{List, Option, None, Some, [], ◌∷◌, ◌++◌, refl, sym, ap, subst, ◌∙◌}
+use Rattle.std.proofs.Common.{List, Some, [], ◌∷◌, ◌++◌, sym, subst, ◌∙◌}
 use Rattle.std.specs.Prelude.{All, nat_lt}
 use Rattle.std.proofs.lemmas.List.Elements.{All-filter, All-push}
 use Rattle.hal_schema.specs.declared.row.Row.{Row}
