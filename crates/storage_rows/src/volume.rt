@@ -4,11 +4,10 @@ ghost use Rattle.std.specs.Prelude.{None};
 use block_journal::Journal;
 use data_set_pairs::{VolWhy, Volume};
 use hal_base::{
-    BLOCK, Blocks, Bytes, Cursor, Failed, List, Live, Name8, PageFault, PartState, SetId, Shelf,
-    Site,
+    BLOCK, Blocks, Bytes, Cursor, Failed, List, Live, PageFault, PartState, SetId, Shelf, Site,
 };
 use hal_disk::MemSite;
-use hal_schema::{PartDef, Schema, first_schema};
+use hal_schema::first_schema;
 use std::alloc::{AllocError, Global};
 use std::test::Fail;
 
@@ -272,112 +271,5 @@ fn a_switch_frees_the_old_side(rt: HostRuntime) -> Result<(), Fail> {
     volume.forget();
     assert_eq!(rt; volume.free_count(), 38);
     assert_eq!(rt; volume.block_of(CELLS, 0), Some(1));
-    Ok(())
-}
-
-// KDB with a second partition.
-fn two_parts(alloc: Global) -> Result<Schema, Fail> {
-    let mut schema = first_schema(alloc)?;
-    let name = Name8::read(b"P2").ok_or("no name")?;
-    schema.parts.push(PartDef {
-        name,
-        number: 2,
-        high: Bytes::from_slice(alloc, b"~~~~")?,
-        anchors: 1,
-        fbff: 0,
-        fspf: 0,
-    })?;
-    Ok(schema)
-}
-
-fn set_of(part: u16, number: u16, letter: u8) -> SetId {
-    SetId {
-        part,
-        number,
-        letter,
-    }
-}
-
-// The number of the page that is added.
-fn grown(volume: &mut Volume<Journal<Untold>>, set: SetId) -> Result<u16, Fail> {
-    if !volume.is_live() || !volume.takes(set, 1) {
-        return Err("not taken".into());
-    }
-    match volume.grow(set, 1) {
-        Ok(page) => Ok(page),
-        Err(_) => Err("not grown".into()),
-    }
-}
-
-#[test]
-fn pages_of_two_letters_and_partitions_stand_through_a_switch(rt: HostRuntime) -> Result<(), Fail> {
-    let alloc = rt.alloc();
-    let schema = two_parts(alloc)?;
-    let mut image = zeros(alloc)?;
-    put(&mut image, FIRST, PAUSED);
-    put(&mut image, FIRST + 128, b"\0\x02\0\x01AI\0\0");
-    let site = MemSite::new(alloc, Bytes::from_vec(image), List::new(alloc));
-    let Ok(journal) = Journal::open(alloc, Untold(site), FIRST as u64, 41) else {
-        return Err("not opened".into());
-    };
-    let Ok(mut volume) = Volume::read(alloc, journal, &schema) else {
-        return Err("not read".into());
-    };
-    let [a, b] = [set_of(1, 1, b'A'), set_of(1, 1, b'B')];
-    let [other_a, other_b] = [set_of(2, 1, b'A'), set_of(2, 1, b'B')];
-    for (set, page) in [
-        (a, 0),
-        (other_b, 0),
-        (b, 0),
-        (a, 1),
-        (other_a, 0),
-        (OUTPUT, 0),
-        (other_b, 1),
-    ] {
-        assert_eq!(rt; grown(&mut volume, set)?, page);
-    }
-    assert!(rt; volume.is_live());
-    assert_eq!(rt; volume.commit(), Ok(()));
-    assert_eq!(rt; grown(&mut volume, b)?, 1);
-    let idle = PartState {
-        part: 1,
-        number: 2,
-        side: b'M',
-        state: b'I',
-        cursor: Cursor::Front,
-    };
-    assert!(rt; volume.is_live());
-    assert_eq!(rt; volume.set_state(0, &idle), Ok(()));
-    assert_eq!(rt; volume.free_count(), 36);
-    for (set, page, block) in [
-        (a, 0, None),
-        (a, 1, None),
-        (b, 0, None),
-        (b, 1, None),
-        (OUTPUT, 0, Some(6)),
-        (other_a, 0, Some(5)),
-        (other_b, 0, Some(2)),
-        (other_b, 1, Some(7)),
-    ] {
-        assert_eq!(rt; volume.block_of(set, page), block);
-    }
-    assert_eq!(rt; grown(&mut volume, OUTPUT)?, 1);
-    assert_eq!(rt; grown(&mut volume, other_a)?, 1);
-    assert_eq!(rt; volume.block_of(OUTPUT, 1), Some(1));
-    assert_eq!(rt; volume.block_of(other_a, 1), Some(3));
-    assert!(rt; volume.is_live());
-    volume.forget();
-    assert_eq!(rt; volume.free_count(), 33);
-    for (set, page, block) in [
-        (a, 1, Some(4)),
-        (b, 0, Some(3)),
-        (b, 1, None),
-        (OUTPUT, 0, Some(6)),
-        (OUTPUT, 1, None),
-        (other_a, 1, None),
-        (other_b, 1, Some(7)),
-    ] {
-        assert_eq!(rt; volume.block_of(set, page), block);
-    }
     Ok(())
 }
