@@ -60,9 +60,33 @@ impl<H: Shelf + Drop> OpenIndex<H> {
         self.index.entries_before(&mut self.shelf, key)
     }
 
+    /// Moves an entry to another key, unless the lengths of the new one aren't those of the index: then the answer is false.
+    pub fn move_entry(&mut self, old: &[u8], entry: &Entry) -> Result<bool, AddFault>
+        requires live { IsTrue (H.seen self.old.shelf).live }
+        requires takes { IsTrue ((H.seen self.old.shelf).takes self.old.index.rows.set 2) }
+    {
+        if !self.index.fits(entry) {
+            return Ok(false);
+        }
+        self.index.move_entry(&mut self.shelf, old, entry)?;
+        Ok(true)
+    }
+
+    pub fn heal(&mut self, key: &[u8], number: u16, addr: u32) -> Result<bool, PageFault>
+        requires { IsTrue (H.seen self.old.shelf).live }
+    {
+        self.index.heal(&mut self.shelf, key, number, addr)
+    }
+
     /// The shelf, on which another may be opened.
     pub fn into_shelf(self) -> H {
         let OpenIndex { shelf, index: _ } = self;
         shelf
+    }
+
+    /// The shelf and the index, whose entries a list on the shelf resolves.
+    pub fn into_parts(self) -> (H, Psindex) {
+        let OpenIndex { shelf, index } = self;
+        (shelf, index)
     }
 }

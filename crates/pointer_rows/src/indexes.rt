@@ -16,7 +16,7 @@ const XDB: &str =
 
 const XDB_PARTS: &str = "blocks = 40\n[[partition]]\nname = \"P1\"\nnumber = 1\nhigh = \"999\"\n";
 
-fn schema_of(rt: &HostRuntime) -> Result<Schema, Fail>
+pub(crate) fn schema_of(rt: &HostRuntime) -> Result<Schema, Fail>
     ensures { IfOk result (λ schema. length schema.indexes ≡ 2) }
 {
     let (dbd, _) = read_dbd(rt.alloc(), XDB.as_bytes())?;
@@ -29,7 +29,7 @@ fn schema_of(rt: &HostRuntime) -> Result<Schema, Fail>
 }
 
 /// An entry whose key has so many bytes, of which the last is the number.
-fn entry_of(rt: &HostRuntime, bytes: usize, number: u8) -> Result<Entry, Fail> {
+pub(crate) fn entry_of(rt: &HostRuntime, bytes: usize, number: u8) -> Result<Entry, Fail> {
     let mut key = [7; 240];
     key[239] = number;
     let eps = Eps {

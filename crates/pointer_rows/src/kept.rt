@@ -3,9 +3,12 @@ ghost use Rattle.std.specs.Prelude.{◌≡◌, IfOk, IsTrue};
 ghost use Rattle.keyed_sets.specs.Calls.{IsOpened};
 ghost use Rattle.keyed_sets.specs.OneProof.{IsOpened-prop};
 ghost use Rattle.eps_pointers.specs.Listed.{list_set};
+ghost use Rattle.eps_pointers.specs.Target.{HasAnchors};
 
 use eps_pointers::{Ile, IndirectList};
-use hal_base::{Ilk, PageFault, Shelf, StoreFault};
+use hal_base::{Ilk, PageFault, PartState, Shelf, StoreFault};
+use hal_schema::PartDef;
+use secondary_index::{Entry, Psindex};
 use std::alloc::Global;
 
 /// A shelf, and the indirect list of partition 1 on it, which stands for its pages between any two calls.
@@ -42,6 +45,20 @@ impl<H: Shelf + Drop> OpenList<H> {
         requires { IsTrue (H.seen self.old.shelf).live }
     {
         self.list.drop_entry(&mut self.shelf, ilk, code)
+    }
+
+    /// The address of the target of an entry of an index.
+    pub fn resolve(
+        &mut self,
+        index: &Psindex,
+        entry: &Entry,
+        part: &PartDef,
+        state: &PartState,
+    ) -> Result<Option<u32>, PageFault>
+        requires live { IsTrue (H.seen self.old.shelf).live }
+        requires anchored { HasAnchors part.now.anchors state.now.cursor }
+    {
+        index.resolve(&mut self.shelf, entry, part, state, &mut self.list)
     }
 
     /// The shelf, on which another may be opened.
