@@ -37,7 +37,7 @@ tiled_of side shelf stands place pages below told =
     let ten = stands.ten in
     let (store, at) = some_at side.stores.items place (omega (arith, ten, below)) in
     let l = stands.each place store at in
-    let knows : Knows store.shapes store.spaces.items pages = l.stands.told pages (ap shelf.pages l.set ∙ told) in
+    let knows : Knows store.shapes store.spaces.pages.items pages = l.stands.told pages (ap shelf.pages l.set ∙ told) in
     subst (λ (s : List Shape). AreTiled s pages) l.shapes knows.tiled
 
 rule_of : (o : Option (List (List ℕ))) (P : List (List ℕ) → Type 0) (pages : List (List ℕ)) → o ≡ Some pages → ForSome o P → P pages
