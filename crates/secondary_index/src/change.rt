@@ -21,6 +21,7 @@ impl Psindex {
         ensures not_taken { OnOk result (KeyIs false self.old.rows entry.now.key (H.seen shelf.old)) }
         ensures added { OnOk result (PutsIn self.old.rows (entry_row entry.now) (H.seen shelf.old) (H.seen shelf.new)) }
         ensures opened { StaysOpen self.old.rows self.new.rows (H.seen shelf.new) }
+        ensures target { self.new.target ≡ self.old.target }
         ensures leaves { Grows self.old.rows (H.steady shelf.old shelf.new) (IsErrOf result AddFault.Failed) (H.seen shelf.old) (H.seen shelf.new) }
         ensures fails { IfErr result (AddFails self.old.rows entry.now (H.seen shelf.old) (H.seen shelf.new)) }
     {
@@ -46,6 +47,7 @@ impl Psindex {
         requires fits { FitsIndex self.old.rows entry.now }
         ensures moved { OnOk result (Moves self.old.rows old.now entry.now (H.seen shelf.old) (H.seen shelf.new)) }
         ensures opened { StaysOpen self.old.rows self.new.rows (H.seen shelf.new) }
+        ensures target { self.new.target ≡ self.old.target }
         ensures leaves { Grows self.old.rows (H.steady shelf.old shelf.new) (IsErrOf result AddFault.Failed) (H.seen shelf.old) (H.seen shelf.new) }
         ensures fails { IfErr result (MoveFails self.old.rows old.now entry.now (H.seen shelf.old) (H.seen shelf.new)) }
     {
@@ -59,6 +61,7 @@ impl Psindex {
         requires opened { IsOpened self.old.rows (H.seen shelf.old) }
         ensures removed { IfOk result (Removes self.old.rows (H.seen shelf.old) (H.seen shelf.new) key.now) }
         ensures opened { StaysOpen self.old.rows self.new.rows (H.seen shelf.new) }
+        ensures target { self.new.target ≡ self.old.target }
         ensures leaves { Writes self.old.rows (H.steady shelf.old shelf.new) (IsErrOf result PageFault.Failed) (H.seen shelf.old) (H.seen shelf.new) }
         ensures fails { OnErr result (SameShelf (H.seen shelf.old) (H.seen shelf.new)) × (IsErrOf result PageFault.NoRoom → ⊥) }
     {

@@ -23,6 +23,7 @@ impl Psindex {
         requires opened { IsOpened self.old.rows (H.seen shelf.old) }
         ensures healed { IfOk result (Heals self.old.rows key.now number addr (H.seen shelf.old) (H.seen shelf.new)) }
         ensures opened { StaysOpen self.old.rows self.new.rows (H.seen shelf.new) }
+        ensures target { self.new.target ≡ self.old.target }
         ensures leaves { Writes self.old.rows (H.steady shelf.old shelf.new) (IsErrOf result PageFault.Failed) (H.seen shelf.old) (H.seen shelf.new) }
         ensures fails { OnErr result (SameShelf (H.seen shelf.old) (H.seen shelf.new)) × (IsErrOf result PageFault.NoRoom → ⊥) }
     {
