@@ -1,4 +1,5 @@
 mod Asking
+mod Below
 mod Climbs
 mod Deciding
 mod Finding
@@ -11,3 +12,4 @@ mod Showing
 mod Skipping
 mod Stepping
 mod Twins
+mod Within

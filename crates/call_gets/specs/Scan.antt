@@ -119,6 +119,10 @@ pub record IsPath (view : List Spot) (at : Anchor) (path : List Spot) : Type 0 w
   pub same : path ≡ path_of at view
   pub found : All (IsFound view) path
 
+-- the level of the first element of a path that is at a place
+abbrev pub level_at : List Spot → Anchor → Option ℕ
+level_at path at = option_map (λ (spot : Spot). spot.level) (find (is_at at) path)
+
 -- ---- gets
 
 -- where the list is told, this is what is wanted of its view

@@ -1,18 +1,20 @@
 // What a get finds in the view of its session.
-ghost use Rattle.std.specs.Prelude.{◌≡◌, ◌||◌, find, true, IfOk, IfSome, IsErrOf, IsTrue, None};
+ghost use Rattle.std.specs.Prelude.{◌≡◌, ◌||◌, filter, find, true, IfOk, IfSome, IsErrOf, IsTrue, None, Some};
+ghost use Rattle.position_state.specs.View.{behind, is_at};
 ghost use Rattle.std.specs.Option.{ForSome, option_map};
 ghost use Rattle.position_state.specs.Lawful.{Stands};
 ghost use Rattle.position_state.specs.Looks.{stands_in};
-ghost use Rattle.dli_calls.specs.Gets.{got, is_next, is_unique, paths_behind};
+ghost use Rattle.dli_calls.specs.Gets.{got, is_below_parent, is_next, is_unique, paths_behind};
 ghost use Rattle.dli_calls.specs.Meets.{meets, on_paths};
-ghost use Rattle.call_gets.specs.Scan.{IsGot, LooksOn, on_its_path};
+ghost use Rattle.call_gets.specs.Scan.{IsGot, LooksOn, level_at, on_its_path, path_of, plain_view};
 
 use crate::functions::is_unique;
+use crate::place::is_same_place;
 use crate::route::path_to;
 use crate::scan::{Met, first_met};
 use call_text::{Call, Ssa};
 use hal_schema::Schema;
-use position_state::{Anchor, Session, Walk, WalkFault};
+use position_state::{Anchor, Session, Spot, Walk, WalkFault};
 use std::alloc::Global;
 use view_laws::places_differ;
 
@@ -57,4 +59,92 @@ fn first_behind<W: Walk>(
     let path = path_to(alloc, walk, at)?;
     let first = walk.after(None, at)?;
     first_met(walk, schema, ssas, None, path, first)
+}
+
+/// The first element behind a place and below another that meets the SSAs.
+fn first_below<W: Walk>(
+    alloc: Global,
+    walk: &mut W,
+    schema: &Schema,
+    ssas: &[Ssa],
+    at: &Anchor,
+    parent: &Anchor,
+) -> Result<Option<Met>, WalkFault>
+    requires live { IsTrue (W.seen walk.old).live }
+    requires schema { (W.seen walk.old).schema ≡ schema.now }
+    requires there { IsTrue (stands_in (W.seen walk.old) None at.now) }
+    ensures got { IfOk result (IsGot schema.now (W.seen walk.old)
+        (λ view. find (meets schema.now None view ssas.now) (filter (is_below_parent (Some parent.now)) (paths_behind at.now (on_paths view))))) }
+    ensures looked { LooksOn (IsErrOf result WalkFault.Failed) (W.seen walk.old) (W.seen walk.new) }
+{
+    places_differ();
+    let path = path_to(alloc, walk, at)?;
+    match level_at(&path, parent) {
+        None => below_later(alloc, walk, schema, ssas, at, parent),
+        Some(level) => {
+            let first = walk.after(None, at)?;
+            first_met(walk, schema, ssas, Some(level), path, first)
+        }
+    }
+}
+
+/// The level of the element of a path that is at a place.
+fn level_at(path: &[Spot], at: &Anchor) -> Option<u8>
+    ensures { result ≡ level_at path.now at.now }
+{
+    for spot in path {
+        if is_same_place(at, &spot.at) {
+            return Some(spot.level);
+        }
+    }
+    None
+}
+
+/// The same where the first place isn't the other one nor below it.
+fn below_later<W: Walk>(
+    alloc: Global,
+    walk: &mut W,
+    schema: &Schema,
+    ssas: &[Ssa],
+    at: &Anchor,
+    parent: &Anchor,
+) -> Result<Option<Met>, WalkFault>
+    requires live { IsTrue (W.seen walk.old).live }
+    requires schema { (W.seen walk.old).schema ≡ schema.now }
+    requires there { IsTrue (stands_in (W.seen walk.old) None at.now) }
+    requires apart { ForSome (W.seen walk.old).forest (λ rows. level_at (path_of at.now (plain_view schema.now rows)) parent.now ≡ None) }
+    ensures got { IfOk result (IsGot schema.now (W.seen walk.old)
+        (λ view. find (meets schema.now None view ssas.now) (filter (is_below_parent (Some parent.now)) (paths_behind at.now (on_paths view))))) }
+    ensures looked { LooksOn (IsErrOf result WalkFault.Failed) (W.seen walk.old) (W.seen walk.new) }
+{
+    places_differ();
+    match later(walk, at, parent)? {
+        None => Ok(None),
+        Some(spot) => {
+            let path = path_to(alloc, walk, &spot.at)?;
+            let first = walk.after(None, &spot.at)?;
+            first_met(walk, schema, ssas, Some(spot.level), path, first)
+        }
+    }
+}
+
+/// The element at one place, if it stands behind another.
+fn later<W: Walk>(walk: &mut W, at: &Anchor, place: &Anchor) -> Result<Option<Spot>, WalkFault>
+    requires live { IsTrue (W.seen walk.old).live }
+    requires there { IsTrue (stands_in (W.seen walk.old) None at.now) }
+    ensures later { IfOk result (λ spot. IfSome (W.seen walk.old).forest (λ rows. spot ≡ find (is_at place.now) (behind at.now (plain_view (W.seen walk.old).schema rows)))) }
+    ensures looked { LooksOn (IsErrOf result WalkFault.Failed) (W.seen walk.old) (W.seen walk.new) }
+{
+    places_differ();
+    let mut next = walk.after(None, at)?;
+    for _look in 0..u64::MAX {
+        let Some(spot) = next else {
+            return Ok(None);
+        };
+        if is_same_place(place, &spot.at) {
+            return Ok(Some(spot));
+        }
+        next = walk.after(None, &spot.at)?;
+    }
+    Err(WalkFault::Memory)
 }

@@ -23,6 +23,7 @@ mod judged;
 mod names;
 mod options;
 mod path;
+mod place;
 mod refusals;
 mod route;
 mod scan;

@@ -1,3 +1,4 @@
+use Rattle.call_gets.proofs.Within.{within, gone}
 use Rattle.std.proofs.Common.{◌≡◌, List, Option, None, refl, sym, ap, ◌∙◌}
 use Rattle.std.specs.Prelude.{find, IfSome}
 use Rattle.std.specs.Option.{option_map}
