@@ -7,6 +7,7 @@ mod Judging
 mod Listing
 mod Looking
 mod Moving
+mod Parting
 mod Routing
 mod Showing
 mod Skipping

@@ -21,7 +21,7 @@ use Rattle.call_gets.specs.Scan.{IsFound, is_inside, first_inside}
 use Rattle.call_gets.proofs.Skipping.{level, kept}
 
 -- the elements of a path that pass a test are of this level
-abbrev of_level : (Spot → Bool) → ℕ → Spot → Bool
+abbrev pub of_level : (Spot → Bool) → ℕ → Spot → Bool
 of_level test m z = not (test z) || (z.level == m)
 
 some_kept : (test : Spot → Bool) (m l : ℕ) (xs : List Spot) → list_all (of_level test m) xs ≡ true → m < l → list_any test (kept l xs) ≡ list_any test xs
@@ -57,7 +57,7 @@ all_kept test l (x ∷ xs) h =
     by true f rest = and_from (test x) (list_all test (kept l xs)) f rest
     by false f rest = rest
 
-none_fails : (test : Spot → Bool) (l : ℕ) (xs : List Spot) → list_any test xs ≡ false → list_any test (kept l xs) ≡ false
+pub none_fails : (test : Spot → Bool) (l : ℕ) (xs : List Spot) → list_any test xs ≡ false → list_any test (kept l xs) ≡ false
 none_fails test l [] h = refl
 none_fails test l (x ∷ xs) h =
     let a = or_parts (test x) (list_any test xs) h in
@@ -157,7 +157,7 @@ entry_itself None (Some y) h = absurd (let no : ⊥ = cc in no)
 entry_itself (Some x) None h = absurd (let no : ⊥ = cc in no)
 entry_itself (Some x) (Some y) h = ap (λ k. Some k) (sym ((bytes_eq-Decides x y).0 h))
 
-same_as : (a b c : Anchor) → same_place a b ≡ true → same_place a c ≡ same_place b c
+pub same_as : (a b c : Anchor) → same_place a b ≡ true → same_place a c ≡ same_place b c
 same_as Front Front c h = refl
 same_as Front (At n r e) c h = absurd (let no : ⊥ = cc in no)
 same_as (At n r e) Front c h = absurd (let no : ⊥ = cc in no)
@@ -170,7 +170,7 @@ find_agree : (p q : Spot → Bool) → ((x : Spot) → p x ≡ q x) → (xs : Li
 find_agree p q f [] = refl
 find_agree p q f (x ∷ xs) = ap (λ b. cond b (Some x) (find p xs)) (f x) ∙ ap (λ (o : Option Spot). cond (q x) (Some x) o) (find_agree p q f xs)
 
-any_agree : (p q : Spot → Bool) → ((x : Spot) → p x ≡ q x) → (xs : List Spot) → list_any p xs ≡ list_any q xs
+pub any_agree : (p q : Spot → Bool) → ((x : Spot) → p x ≡ q x) → (xs : List Spot) → list_any p xs ≡ list_any q xs
 any_agree p q f [] = refl
 any_agree p q f (x ∷ xs) = ap (λ b. b || list_any p xs) (f x) ∙ ap (λ b. q x || b) (any_agree p q f xs)
 

@@ -1,12 +1,12 @@
 // What a get is answered, and what it leaves of its session.
-ghost use Rattle.std.specs.Prelude.{◌≡◌, ◌==◌, ◌&&◌, ◌||◌, length, true, false, codes, nat_lt, if◌then◌else◌, IfOk, IfSome, IsErrOf, IsTrue, None, Some};
+ghost use Rattle.std.specs.Prelude.{◌≡◌, ◌==◌, ◌&&◌, length, true, false, codes, nat_lt, if◌then◌else◌, IfOk, IfSome, IsErrOf, IsTrue, None, Some};
 ghost use Rattle.std.specs.List.{list_all, list_any};
 ghost use Rattle.std.specs.Option.{ForSome, option_copied, option_map};
 ghost use Rattle.hal_schema.specs.SegType.{type_of};
 ghost use Rattle.position_state.specs.declared.spot.Change.TheVariants.{Nothing};
 ghost use Rattle.position_state.specs.Lawful.{Stands};
 ghost use Rattle.dli_calls.specs.Decided.{after_refusal, found, reply_of};
-ghost use Rattle.dli_calls.specs.Gets.{after_get, crossing, got_status, is_hold, is_next, is_unique, shown_content};
+ghost use Rattle.dli_calls.specs.Gets.{after_get, crossing, got_status, is_get, is_hold, is_next, is_unique, shown_content};
 ghost use Rattle.dli_calls.specs.Meets.{is_of};
 ghost use Rattle.dli_calls.specs.Refusals.{asks_high_root};
 ghost use Rattle.dli_calls.specs.Ssas.{asks_data};
@@ -27,8 +27,8 @@ use hal_schema::Schema;
 use position_state::{Anchor, Change, Session, Spot, Walk, WalkFault};
 use std::alloc::Global;
 
-/// The decision of GU, GN or one of their hold forms, in a session that sees the database in hierarchic sequence. Refusals
-/// by text and session come before any look.
+/// The decision of a get, in a session that sees the database in hierarchic sequence. Refusals by text and session come
+/// before any look.
 pub fn decide_get<W: Walk>(
     alloc: Global,
     schema: &Schema,
@@ -38,7 +38,7 @@ pub fn decide_get<W: Walk>(
 ) -> Result<Decision, WalkFault>
     requires live { IsTrue (W.seen walk.old).live }
     requires plain { session.now.index ≡ None }
-    requires get { (is_unique call.now || is_next call.now) ≡ true }
+    requires get { is_get call.now ≡ true }
     requires schema { (W.seen walk.old).schema ≡ schema.now }
     requires stands { ForSome (W.seen walk.old).forest (λ rows. Stands schema.now rows session.now) }
     ensures decided { IfOk result (IsDecided schema.now (W.seen walk.old) session.now call.now) }
