@@ -1,6 +1,6 @@
 -- The element at one place, looked for behind another.
-use Rattle.std.proofs.Common.{◌≡◌, Bool, true, false, cond, List, [], ◌∷◌, Option, None, Some, refl, sym, ap, subst, ◌∙◌}
-use Rattle.std.specs.Prelude.{find, slice_get, IfSome}
+use Rattle.std.proofs.Common.{◌≡◌, true, false, cond, List, Option, None, Some, sym, ap, subst, ◌∙◌}
+use Rattle.std.specs.Prelude.{find, IfSome}
 use Rattle.position_state.specs.declared.session.Anchor.{Anchor}
 use Rattle.position_state.specs.declared.spot.Spot.{Spot}
 use Rattle.position_state.specs.View.{is_at, behind}

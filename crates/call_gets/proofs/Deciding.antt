@@ -51,15 +51,16 @@ fits name =
 
 only_of : (call : Call) (names : List (List ℕ)) → list_all fits names ≡ true → list_any (bytes_eq call.func) names ≡ true → IsOnlyGet call
 only_of call [] f h = absurd (let no : ⊥ = cc in no)
-only_of call (name ∷ names) f h = by (or_cases (bytes_eq call.func name) (list_any (bytes_eq call.func) names) h)
+only_of call (name ∷ names) f h =
+    let a = and_parts (fits name) (list_all fits names) f in
+    by a.0 (or_cases (bytes_eq call.func name) (list_any (bytes_eq call.func) names) h) (only_of call names a.1)
   where
-    by : (bytes_eq call.func name ≡ true) ⊎ (list_any (bytes_eq call.func) names ≡ true) → IsOnlyGet call
-    by (inl t) =
-        let a = and_parts (fits name) (list_all fits names) f in
-        let b = and_parts (not (bytes_eq name (codes "ISRT")) && not (bytes_eq name (codes "REPL"))) (list_any (bytes_eq name) (codes "GU" ∷ codes "GN" ∷ codes "GNP" ∷ codes "GHU" ∷ codes "GHN" ∷ codes "GHNP" ∷ [])) a.0 in
+    by : fits name ≡ true → (bytes_eq call.func name ≡ true) ⊎ (list_any (bytes_eq call.func) names ≡ true) → (list_any (bytes_eq call.func) names ≡ true → IsOnlyGet call) → IsOnlyGet call
+    by fit (inl t) rest =
+        let b = and_parts (not (bytes_eq name (codes "ISRT")) && not (bytes_eq name (codes "REPL"))) (list_any (bytes_eq name) (codes "GU" ∷ codes "GN" ∷ codes "GNP" ∷ codes "GHU" ∷ codes "GHN" ∷ codes "GHNP" ∷ [])) fit in
         let d = and_parts (not (bytes_eq name (codes "ISRT"))) (not (bytes_eq name (codes "REPL"))) b.0 in
         only_by call name (not-true (bytes_eq name (codes "ISRT")) d.0) (not-true (bytes_eq name (codes "REPL")) d.1) b.1 t
-    by (inr t) = only_of call names (and_parts (fits name) (list_all fits names) f).1 t
+    by fit (inr t) rest = rest t
 
 pub only_get : (call : Call) → is_get call ≡ true → IsOnlyGet call
 only_get call h = only_of call (codes "GU" ∷ codes "GN" ∷ codes "GNP" ∷ codes "GHU" ∷ codes "GHN" ∷ codes "GHNP" ∷ []) refl h

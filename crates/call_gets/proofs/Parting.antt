@@ -14,13 +14,13 @@ use Rattle.call_text.specs.declared.line.Ssa.{Ssa}
 use Rattle.position_state.specs.declared.session.Anchor.{Anchor}
 use Rattle.position_state.specs.declared.session.Anchor.TheVariants.{Front, At}
 use Rattle.position_state.specs.declared.spot.Spot.{Spot}
-use Rattle.position_state.specs.View.{is_at, is_place_of, root_named, before, behind}
+use Rattle.position_state.specs.View.{is_at, is_place_of, root_named, behind}
 use Rattle.position_state.specs.Looks.{found_at}
-use Rattle.dli_calls.specs.Meets.{meets, on_paths}
-use Rattle.dli_calls.specs.Gets.{OnPath, is_below_parent, paths_behind}
+use Rattle.dli_calls.specs.Meets.{meets}
+use Rattle.dli_calls.specs.Gets.{OnPath, is_below_parent}
 use Rattle.view_laws.specs.Views.{IsInItsPlace}
 use Rattle.call_gets.specs.Scan.{IsFound, first_inside, level_at, met_behind, met_below, path_of}
-use Rattle.call_gets.proofs.Stepping.{Differ, Ends, ends_any}
+use Rattle.call_gets.proofs.Stepping.{Differ, ends_any}
 use Rattle.call_gets.proofs.Skipping.{level, kept}
 use Rattle.call_gets.proofs.Routing.{routed}
 use Rattle.call_gets.proofs.Finding.{paths_are}

@@ -1,8 +1,8 @@
 -- What a GNP looks at: while the parent is on the path, what is deeper than it.
-use Rattle.std.proofs.Common.{◌≡◌, ℕ, ◌==◌, ◌<◌, ◌≤◌, Bool, true, false, not, cond, ◌&&◌, ◌||◌, ◌⊎◌, inl, inr, List, [], ◌∷◌, ◌++◌, Option, None, Some, refl, sym, ap, subst, ◌∙◌, arith}
+use Rattle.std.proofs.Common.{◌≡◌, ℕ, ◌==◌, ◌<◌, ◌≤◌, Bool, true, false, not, cond, ◌&&◌, ◌||◌, ◌⊎◌, inl, inr, List, [], ◌∷◌, ◌++◌, Option, None, Some, refl, sym, ap, ◌∙◌, arith}
 use Rattle.std.specs.Prelude.{nat_lt, filter, find, All}
 use Rattle.std.specs.List.{list_all, list_any}
-use Rattle.std.proofs.lemmas.Bool.{and_parts, and_from, or_parts, or_from, or_cases, or_left, or_right, eq-eqb, eqb-true, ltb-true, ltb-false, lt-ltb, le-ltb}
+use Rattle.std.proofs.lemmas.Bool.{and_parts, and_from, or_parts, or_from, or_cases, or_left, or_right, eq-eqb, eqb-true, ltb-true, ltb-false}
 use Rattle.std.proofs.lemmas.List.Folds.{list_any-append, list_all-append}
 use Rattle.hal_schema.specs.Paths.{path_with, path_after, with_paths}
 use Rattle.position_state.specs.declared.session.Anchor.{Anchor}
@@ -17,7 +17,7 @@ use Rattle.std.proofs.lemmas.List.{append_assoc}
 use Rattle.std.proofs.lemmas.List.Elements.{All-head, All-tail}
 use Rattle.call_gets.proofs.Stepping.{Differ}
 use Rattle.dli_calls.specs.Gets.{OnPath, is_below_parent}
-use Rattle.call_gets.specs.Scan.{IsFound, is_inside, first_inside}
+use Rattle.call_gets.specs.Scan.{IsFound, first_inside}
 use Rattle.call_gets.proofs.Skipping.{level, kept}
 
 -- the elements of a path that pass a test are of this level
@@ -196,7 +196,7 @@ levels_at view at q (z ∷ zs) h f all =
     by false k = refl
 
 -- a path is of what it was carried along
-along_any : (test : Spot → Bool) (path xs : List Spot) → list_any test (path_after level path xs) ≡ true → (list_any test path || list_any test xs) ≡ true
+pub along_any : (test : Spot → Bool) (path xs : List Spot) → list_any test (path_after level path xs) ≡ true → (list_any test path || list_any test xs) ≡ true
 along_any test path [] h = or_left (list_any test path) false h
 along_any test path (x ∷ xs) h = by (or_cases (list_any test (path_with level path x)) (list_any test xs) (along_any test (path_with level path x) xs h))
   where

@@ -1,4 +1,4 @@
-use Rattle.std.proofs.Common.{◌≡◌, List, Option, None, Some, refl, sym, ap, ◌∙◌}
+use Rattle.std.proofs.Common.{◌≡◌, List, Option, None, refl, sym, ap, ◌∙◌}
 use Rattle.std.specs.Prelude.{find, IfSome}
 use Rattle.std.specs.Option.{option_map}
 use Rattle.hal_schema.specs.declared.row.Row.{Row}
@@ -15,8 +15,8 @@ use Rattle.call_gets.proofs.gets.got.Goals as goal
 pub first_behind-requires-clause-there : goal.first_behind-requires-clause-there
 first_behind-requires-clause-there g c = front_stands (g.W.Walk.seen c.args.walk.now)
 
-pub first_behind-requires-2-clause-there : goal.first_behind-requires-2-clause-there
-first_behind-requires-2-clause-there g c =
+pub first_behind-requires-then-is_next-clause-there : goal.first_behind-requires-then-is_next-clause-there
+first_behind-requires-then-is_next-clause-there g c =
     let a = g.W.Walk.seen c.args.walk.now in
     stands_at a a c.args.schema.now c.args.session.now.anchor refl refl c.requires.schema
     (λ rows e. ap (λ (o : Option _). is_place_of (view_of c.args.schema.now o rows) c.args.session.now.anchor) (sym c.requires.plain) ∙ (c.requires.stands rows e).anchor)
@@ -46,13 +46,13 @@ returns-then-is_next-clause-got g c =
     let schema = c.args.schema.now in
     let call = c.args.call.now in
     let at = c.args.session.now.anchor in
-    if_ok c.first_behind-2.result (IsGot schema a (λ view. find (meets schema None view c.as_slice-ssas.result.now) (paths_behind at (on_paths view))))
+    if_ok c.first_behind-then-is_next.result (IsGot schema a (λ view. find (meets schema None view c.as_slice-ssas.result.now) (paths_behind at (on_paths view))))
     (λ met. IfSome a.forest (λ (rows : List Row). option_map on_its_path met ≡ got schema rows call c.args.session.now))
     (λ met h. where_told a.forest (λ (rows : List Row). option_map on_its_path met ≡ got schema rows call c.args.session.now)
     (λ rows k. got_next schema rows call c.args.session.now (option_map on_its_path met) c.requires.plain (sym c.is_unique.ensures ∙ c.if-is_unique.false) (sym c.is_next.ensures ∙ c.if-is_next.true)
     (told_at a.forest rows (λ (r : List Row). option_map on_its_path met ≡ find (meets schema None (plain_view schema r) c.as_slice-ssas.result.now) (paths_behind at (on_paths (plain_view schema r)))) k h
     ∙ ap (λ (ssas : List Ssa). find (meets schema None (plain_view schema rows) ssas) (paths_behind at (on_paths (plain_view schema rows)))) c.as_slice-ssas.ensures)))
-    c.first_behind-2.ensures.got
+    c.first_behind-then-is_next.ensures.got
 
 pub returns-in-None-clause-got : goal.returns-in-None-clause-got
 returns-in-None-clause-got g c =

@@ -1,4 +1,4 @@
-use Rattle.std.proofs.Common.{List, Option, Some, refl, sym, subst, ◌∙◌}
+use Rattle.std.proofs.Common.{List, refl, sym, ◌∙◌}
 use Rattle.hal_schema.specs.declared.row.Row.{Row}
 use Rattle.position_state.specs.declared.walk.WalkFault.TheVariants.{Failed}
 use Rattle.position_state.specs.Looks.{first_behind}

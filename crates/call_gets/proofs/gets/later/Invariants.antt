@@ -1,4 +1,3 @@
-use Rattle.std.proofs.Common.{◌≡◌}
 use Rattle.std.specs.Prelude.{IfSome, IsTrue}
 use Rattle.call_gets.specs.Scan.{LooksOn, plain_view}
 use Rattle.call_gets.proofs.Below.{LaterLeft}
