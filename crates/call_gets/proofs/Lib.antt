@@ -3,6 +3,7 @@ mod Below
 mod Climbs
 mod Deciding
 mod Finding
+mod Giving
 mod Judging
 mod Listing
 mod Looking

@@ -1,12 +1,13 @@
 // What a get finds in the view of its session.
-ghost use Rattle.std.specs.Prelude.{◌≡◌, find, IfOk, IfSome, IsErrOf, IsTrue, None, Some};
+ghost use Rattle.std.specs.Prelude.{◌≡◌, ◌≤◌, ◌+◌, ◌==◌, ◌∷◌, [], length, true, find, IfOk, IfSome, IsErrOf, IsTrue, None, Some};
 ghost use Rattle.position_state.specs.View.{behind, is_at};
 ghost use Rattle.std.specs.Option.{ForSome, option_map};
 ghost use Rattle.position_state.specs.Lawful.{Stands};
-ghost use Rattle.position_state.specs.Looks.{stands_in};
-ghost use Rattle.dli_calls.specs.Gets.{got, paths_behind};
+ghost use Rattle.position_state.specs.Looks.{first_behind, stands_in};
+ghost use Rattle.dli_calls.specs.Gets.{paths_behind};
 ghost use Rattle.dli_calls.specs.Meets.{meets, on_paths};
 ghost use Rattle.call_gets.specs.Scan.{IsGot, IsPath, LooksOn, level_at, met_behind, met_below, on_its_path, path_of, plain_view};
+ghost use Rattle.call_gets.specs.Shown.{IsGiven, IsGotBy, is_of_any};
 
 use crate::functions::{is_next, is_unique};
 use crate::place::is_same_place;
@@ -31,7 +32,8 @@ pub(crate) fn got<W: Walk>(
     requires plain { session.now.index ≡ None }
     requires schema { (W.seen walk.old).schema ≡ schema.now }
     requires stands { ForSome (W.seen walk.old).forest (λ rows. Stands schema.now rows session.now) }
-    ensures got { IfOk result (λ met. IfSome (W.seen walk.old).forest (λ rows. option_map on_its_path met ≡ got schema.now rows call.now session.now)) }
+    ensures got { IfOk result (IsGotBy schema.now (W.seen walk.old) session.now call.now) }
+    ensures few { is_of_any call.now ≡ true → (W.seen walk.new).looks ≤ (W.seen walk.old).looks + 1 }
     ensures looked { LooksOn (IsErrOf result WalkFault.Failed) (W.seen walk.old) (W.seen walk.new) }
 {
     let ssas = call.ssas.as_slice();
@@ -58,12 +60,44 @@ fn first_behind<W: Walk>(
     requires live { IsTrue (W.seen walk.old).live }
     requires schema { (W.seen walk.old).schema ≡ schema.now }
     requires there { IsTrue (stands_in (W.seen walk.old) None at.now) }
-    ensures got { IfOk result (IsGot schema.now (W.seen walk.old) (λ view. find (meets schema.now None view ssas.now) (paths_behind at.now (on_paths view)))) }
+    ensures got { IfOk result (IsGiven schema.now ssas.now (W.seen walk.old) (λ view. find (meets schema.now None view ssas.now) (paths_behind at.now (on_paths view)))) }
+    ensures few { length ssas.now == 0 ≡ true → (W.seen walk.new).looks ≤ (W.seen walk.old).looks + 1 }
     ensures looked { LooksOn (IsErrOf result WalkFault.Failed) (W.seen walk.old) (W.seen walk.new) }
 {
     places_differ();
+    if has_none(ssas) {
+        return first_of_any(alloc, walk, at);
+    }
     let path = path_to(alloc, walk, at)?;
     first_from(walk, schema, ssas, None, path, at)
+}
+
+/// The first element behind a place. Without an SSA nothing of the path to it is asked, so it isn't climbed.
+fn first_of_any<W: Walk>(alloc: Global, walk: &mut W, at: &Anchor) -> Result<Option<Met>, WalkFault>
+    requires live { IsTrue (W.seen walk.old).live }
+    requires there { IsTrue (stands_in (W.seen walk.old) None at.now) }
+    ensures met { IfOk result (λ met. IfSome (W.seen walk.old).forest (λ rows.
+        option_map on_its_path met ≡ option_map (λ spot. (spot ∷ [], spot)) (first_behind at.now (plain_view (W.seen walk.old).schema rows)))) }
+    ensures few { (W.seen walk.new).looks ≤ (W.seen walk.old).looks + 1 }
+    ensures looked { LooksOn (IsErrOf result WalkFault.Failed) (W.seen walk.old) (W.seen walk.new) }
+{
+    match walk.after(None, at)? {
+        None => Ok(None),
+        Some(spot) => Ok(Some(alone(alloc, spot))),
+    }
+}
+
+fn has_none(ssas: &[Ssa]) -> bool
+    ensures { result ≡ (length ssas.now == 0) }
+{
+    ssas.len() == 0
+}
+
+fn alone(alloc: Global, spot: Spot) -> Met
+    ensures { on_its_path result ≡ (spot ∷ [], spot) }
+{
+    let above = Vec::new(alloc);
+    Met { above, spot }
 }
 
 /// What a scan finds behind a place to which this is the path.

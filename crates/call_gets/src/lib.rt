@@ -10,7 +10,7 @@
 //! - `route`: the path to a place; `place`: whether two are one; `gets`: what gets find, and `high`: whether they ask above
 //!   every high key; `answer`: their decision.
 //!
-//! `specs/Scan.antt` has what a scan finds.
+//! `specs/Scan.antt` has what a scan finds, `specs/Shown.antt` what a get gives of it.
 #![tactic(auto)]
 
 mod answer;
