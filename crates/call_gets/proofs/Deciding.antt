@@ -28,7 +28,7 @@ use Rattle.dli_calls.specs.Gets.{OnPath, got_status, got_segment, shown_content,
 use Rattle.dli_calls.specs.Refusals.{allows, first_that_holds, is_insert, is_replace, text_refusals, view_refusals, refusal_of, has_no_data, asks_high_root, asks_for_high_root, inserts_high_root, finds_nothing, is_at_end, changes_key, takes_key, need_of}
 use Rattle.dli_calls.specs.Decided.{healing, decision_of, carried_out, refused, found, inserts, changes_held, reply_of, after_refusal}
 
--- ---- GU and GN are gets, and no other calls
+-- ---- gets are no other calls
 
 pub record IsOnlyGet (call : Call) : Type 0 where
   pub insert : is_insert call ≡ false
@@ -45,34 +45,25 @@ only_by call name i r g h =
       get = ap (λ f. list_any (bytes_eq f) (codes "GU" ∷ codes "GN" ∷ codes "GNP" ∷ codes "GHU" ∷ codes "GHN" ∷ codes "GHNP" ∷ [])) e ∙ g;
     }
 
-only_unique : (call : Call) → is_unique call ≡ true → IsOnlyGet call
-only_unique call h = by (or_cases (bytes_eq call.func (codes "GU")) (bytes_eq call.func (codes "GHU") || false) h)
+abbrev fits : List ℕ → Bool
+fits name =
+    not (bytes_eq name (codes "ISRT")) && not (bytes_eq name (codes "REPL")) && list_any (bytes_eq name) (codes "GU" ∷ codes "GN" ∷ codes "GNP" ∷ codes "GHU" ∷ codes "GHN" ∷ codes "GHNP" ∷ [])
+
+only_of : (call : Call) (names : List (List ℕ)) → list_all fits names ≡ true → list_any (bytes_eq call.func) names ≡ true → IsOnlyGet call
+only_of call [] f h = absurd (let no : ⊥ = cc in no)
+only_of call (name ∷ names) f h =
+    let a = and_parts (fits name) (list_all fits names) f in
+    by a.0 (or_cases (bytes_eq call.func name) (list_any (bytes_eq call.func) names) h) (only_of call names a.1)
   where
-    last : (bytes_eq call.func (codes "GHU") ≡ true) ⊎ (false ≡ true) → IsOnlyGet call
-    last (inl t) = only_by call (codes "GHU") refl refl refl t
-    last (inr t) = absurd (let no : ⊥ = cc in no)
+    by : fits name ≡ true → (bytes_eq call.func name ≡ true) ⊎ (list_any (bytes_eq call.func) names ≡ true) → (list_any (bytes_eq call.func) names ≡ true → IsOnlyGet call) → IsOnlyGet call
+    by fit (inl t) rest =
+        let b = and_parts (not (bytes_eq name (codes "ISRT")) && not (bytes_eq name (codes "REPL"))) (list_any (bytes_eq name) (codes "GU" ∷ codes "GN" ∷ codes "GNP" ∷ codes "GHU" ∷ codes "GHN" ∷ codes "GHNP" ∷ [])) fit in
+        let d = and_parts (not (bytes_eq name (codes "ISRT"))) (not (bytes_eq name (codes "REPL"))) b.0 in
+        only_by call name (not-true (bytes_eq name (codes "ISRT")) d.0) (not-true (bytes_eq name (codes "REPL")) d.1) b.1 t
+    by fit (inr t) rest = rest t
 
-    by : (bytes_eq call.func (codes "GU") ≡ true) ⊎ ((bytes_eq call.func (codes "GHU") || false) ≡ true) → IsOnlyGet call
-    by (inl t) = only_by call (codes "GU") refl refl refl t
-    by (inr t) = last (or_cases (bytes_eq call.func (codes "GHU")) false t)
-
-only_next : (call : Call) → is_next call ≡ true → IsOnlyGet call
-only_next call h = by (or_cases (bytes_eq call.func (codes "GN")) (bytes_eq call.func (codes "GHN") || false) h)
-  where
-    last : (bytes_eq call.func (codes "GHN") ≡ true) ⊎ (false ≡ true) → IsOnlyGet call
-    last (inl t) = only_by call (codes "GHN") refl refl refl t
-    last (inr t) = absurd (let no : ⊥ = cc in no)
-
-    by : (bytes_eq call.func (codes "GN") ≡ true) ⊎ ((bytes_eq call.func (codes "GHN") || false) ≡ true) → IsOnlyGet call
-    by (inl t) = only_by call (codes "GN") refl refl refl t
-    by (inr t) = last (or_cases (bytes_eq call.func (codes "GHN")) false t)
-
-pub only_get : (call : Call) → (is_unique call || is_next call) ≡ true → IsOnlyGet call
-only_get call h = by (or_cases (is_unique call) (is_next call) h)
-  where
-    by : (is_unique call ≡ true) ⊎ (is_next call ≡ true) → IsOnlyGet call
-    by (inl t) = only_unique call t
-    by (inr t) = only_next call t
+pub only_get : (call : Call) → is_get call ≡ true → IsOnlyGet call
+only_get call h = only_of call (codes "GU" ∷ codes "GN" ∷ codes "GNP" ∷ codes "GHU" ∷ codes "GHN" ∷ codes "GHNP" ∷ []) refl h
 
 -- ---- tables
 

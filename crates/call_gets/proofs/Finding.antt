@@ -1,5 +1,5 @@
 -- What a scan from a place finds is what a get finds behind it.
-use Rattle.std.proofs.Common.{◌≡◌, ℕ, Bool, true, false, cond, ◌||◌, List, [], ◌∷◌, Option, None, Some, Result, Ok, Err, refl, sym, ap, subst, ◌∙◌}
+use Rattle.std.proofs.Common.{◌≡◌, ℕ, Bool, true, false, cond, List, [], ◌∷◌, Option, None, Some, Result, Ok, Err, refl, sym, ap, subst, ◌∙◌}
 use Rattle.std.specs.Prelude.{find, filter, IfOk, IfSome, IsTrue}
 use Rattle.std.specs.Option.{option_map_or}
 use Rattle.std.specs.Str.{bytes_eq}
@@ -16,7 +16,7 @@ use Rattle.position_state.specs.View.{view_of, is_place_of, root_named, behind}
 use Rattle.position_state.specs.Looks.{WalkView, found_at, first_behind, stands_in}
 use Rattle.dli_calls.specs.Meets.{meets, on_paths}
 use Rattle.dli_calls.specs.Gets.{OnPath, is_unique, is_next, is_below_parent, looked_at, got, paths_behind}
-use Rattle.call_gets.specs.Scan.{AreFound, IsFound, IsPath, plain_view, first_inside, from_on, met_from}
+use Rattle.call_gets.specs.Scan.{AreFound, IsFound, IsPath, path_of, plain_view, first_inside, from_on, met_from, met_behind, met_below}
 use Rattle.call_gets.proofs.Stepping.{Differ, ends_any, next_of}
 use Rattle.call_gets.proofs.Skipping.{level}
 use Rattle.call_gets.proofs.Routing.{routed}
@@ -34,24 +34,30 @@ find_all test [] = refl
 find_all test (p ∷ ps) = ap (λ o. cond (test p) (Some p) o) (find_all test ps)
 
 -- the elements behind a place, with their paths
-paths_are : (view : List Spot) (at : Anchor) (path : List Spot) → Differ view → is_place_of view at ≡ true → IsPath view at path → paths_behind at (on_paths view) ≡ with_paths level path (behind at view)
-paths_are view Front path d h p = ap (λ (ys : List Spot). with_paths level ys view) (sym p.same)
-paths_are view (At name root entry) path d h p = by (found_at (At name root entry) view) refl
+pub paths_are : (view : List Spot) (at : Anchor) → Differ view → is_place_of view at ≡ true → paths_behind at (on_paths view) ≡ with_paths level (path_of at view) (behind at view)
+paths_are view Front d h = refl
+paths_are view (At name root entry) d h = by (found_at (At name root entry) view) refl
   where
-    by : (o : Option Spot) → found_at (At name root entry) view ≡ o → paths_behind (At name root entry) (on_paths view) ≡ with_paths level path (behind (At name root entry) view)
+    by : (o : Option Spot) → found_at (At name root entry) view ≡ o → paths_behind (At name root entry) (on_paths view) ≡ with_paths level (path_of (At name root entry) view) (behind (At name root entry) view)
     by None e = absurd (let no : false ≡ true = ap (λ o. option_map_or (λ (s : Spot). bytes_eq root (root_named s.at)) o false) (sym e) ∙ h in let none : ⊥ = cc in none)
     by (Some s) e =
         let r = routed view (At name root entry) s d e in
-        r.follows ∙ ap (λ (ys : List Spot). with_paths level ys (behind (At name root entry) view)) (sym r.path ∙ sym p.same)
+        r.follows ∙ ap (λ (ys : List Spot). with_paths level ys (behind (At name root entry) view)) (sym r.path)
 
-pub gets_behind : (schema : Schema) (view : List Spot) (ssas : List Ssa) (at : Anchor) (path : List Spot) (next : Option Spot) (met : Option OnPath) → Differ view → is_place_of view at ≡ true → IsPath view at path
-    → next ≡ first_behind at view → met ≡ met_from schema view ssas None path next → met ≡ find (meets schema None view ssas) (paths_behind at (on_paths view))
-gets_behind schema view ssas at path next met d h p e m =
+-- a scan that begins behind a place
+pub meets_behind : (schema : Schema) (view : List Spot) (ssas : List Ssa) (top : Option ℕ) (at : Anchor) (path : List Spot) (next : Option Spot) (met : Option OnPath) → Differ view → IsPath view at path
+    → next ≡ first_behind at view → met ≡ met_from schema view ssas top path next → met ≡ met_behind schema ssas top at view
+meets_behind schema view ssas top at path next met d p e m =
     let test : OnPath → Bool = meets schema None view ssas in
-    m ∙ ap (λ (o : Option Spot). first_inside None test (with_paths level path (from_on view o))) e
-    ∙ ap (λ (ys : List Spot). first_inside None test (with_paths level path ys)) (sym (next_of view (behind at view) d (ends_any view at)).is)
-    ∙ sym (find_all test (with_paths level path (behind at view)))
-    ∙ ap (find test) (sym (paths_are view at path d h p))
+    m ∙ ap (λ (o : Option Spot). first_inside top test (with_paths level path (from_on view o))) e
+    ∙ ap (λ (ys : List Spot). first_inside top test (with_paths level path ys)) (sym (next_of view (behind at view) d (ends_any view at)).is)
+    ∙ ap (λ (ys : List Spot). first_inside top test (with_paths level ys (behind at view))) p.same
+
+pub gets_behind : (schema : Schema) (view : List Spot) (ssas : List Ssa) (at : Anchor) → Differ view → is_place_of view at ≡ true
+    → met_behind schema ssas None at view ≡ find (meets schema None view ssas) (paths_behind at (on_paths view))
+gets_behind schema view ssas at d h =
+    let test : OnPath → Bool = meets schema None view ssas in
+    sym (find_all test (with_paths level (path_of at view) (behind at view))) ∙ ap (find test) (sym (paths_are view at d h))
 
 pub front_stands : (a : WalkView) → IsTrue (stands_in a None Front)
 front_stands a = by a.forest
@@ -78,6 +84,26 @@ got_next schema rows call session met plain u n h =
     ∙ ap (λ b. find (meets schema None view call.ssas) (cond b (on_paths view) (cond (is_next call) (paths_behind session.anchor (on_paths view)) below))) (sym u)
     ∙ ap (λ (o : Option ℕ). find (meets schema o (view_of schema o rows) call.ssas) (looked_at call session (on_paths (view_of schema o rows)))) (sym plain)
 
-pub is_next_else : (u n : Bool) → (u || n) ≡ true → u ≡ false → n ≡ true
-is_next_else true n h e = absurd (let no : ⊥ = cc in no)
-is_next_else false n h e = h
+no_parent : (ps : List OnPath) → filter (is_below_parent None) ps ≡ []
+no_parent [] = refl
+no_parent (p ∷ ps) = no_parent ps
+
+within : (schema : Schema) (rows : List Row) (call : Call) (session : Session) (parent : Option Anchor) → session.index ≡ None → is_unique call ≡ false → is_next call ≡ false → session.parent ≡ parent
+    → find (meets schema None (plain_view schema rows) call.ssas) (filter (is_below_parent parent) (paths_behind session.anchor (on_paths (plain_view schema rows)))) ≡ got schema rows call session
+within schema rows call session parent plain u n e =
+    let view : List Spot = plain_view schema rows in
+    let behind_it : List OnPath = paths_behind session.anchor (on_paths view) in
+    let below : List OnPath = filter (is_below_parent session.parent) behind_it in
+    ap (λ (o : Option Anchor). find (meets schema None view call.ssas) (filter (is_below_parent o) behind_it)) (sym e)
+    ∙ ap (λ b. find (meets schema None view call.ssas) (cond b behind_it below)) (sym n)
+    ∙ ap (λ b. find (meets schema None view call.ssas) (cond b (on_paths view) (cond (is_next call) behind_it below))) (sym u)
+    ∙ ap (λ (o : Option ℕ). find (meets schema o (view_of schema o rows) call.ssas) (looked_at call session (on_paths (view_of schema o rows)))) (sym plain)
+
+pub got_below : (schema : Schema) (rows : List Row) (call : Call) (session : Session) (parent : Anchor) (met : Option OnPath) → session.index ≡ None → is_unique call ≡ false → is_next call ≡ false → session.parent ≡ Some parent
+    → met ≡ met_below schema call.ssas session.anchor parent (plain_view schema rows) → met ≡ got schema rows call session
+got_below schema rows call session parent met plain u n e h =
+    h ∙ within schema rows call session (Some parent) plain u n e
+
+pub got_nowhere : (schema : Schema) (rows : List Row) (call : Call) (session : Session) → session.index ≡ None → is_unique call ≡ false → is_next call ≡ false → session.parent ≡ None → None ≡ got schema rows call session
+got_nowhere schema rows call session plain u n e =
+    ap (find (meets schema None (plain_view schema rows) call.ssas)) (sym (no_parent (paths_behind session.anchor (on_paths (plain_view schema rows))))) ∙ within schema rows call session None plain u n e

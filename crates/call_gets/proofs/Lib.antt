@@ -1,13 +1,17 @@
 mod Asking
+mod Below
 mod Climbs
 mod Deciding
 mod Finding
+mod Giving
 mod Judging
 mod Listing
 mod Looking
 mod Moving
+mod Parting
 mod Routing
 mod Showing
 mod Skipping
 mod Stepping
 mod Twins
+mod Within

@@ -1,5 +1,5 @@
 -- Looks one after the other, and what is claimed where the list is told.
-use Rattle.std.proofs.Common.{◌≡◌, true, Option, None, Some, Result, Ok, Err, refl, sym, ap, subst, ◌∙◌, arith}
+use Rattle.std.proofs.Common.{◌≡◌, ◌≤◌, ◌+◌, true, Option, None, Some, Result, Ok, Err, refl, sym, ap, subst, ◌∙◌, arith}
 use Rattle.std.specs.Prelude.{List, IfSome, IsTrue}
 use Rattle.std.specs.Option.{option_map_or}
 use Rattle.hal_base.proofs.ShelfLemmas.{fails_then, fails_as}
@@ -26,6 +26,10 @@ on_none a live calm = record {
 
 pub on_one : {f : Type 0} {a b : WalkView} → Looked f a b → LooksOn f a b
 on_one {f} {a} {b} one = record { faults = one.faults; looks = omega (arith, one.looks); schema = one.schema; forest = one.forest; free = one.free }
+
+-- one look is one more at most
+pub one_more : {f : Type 0} {a b : WalkView} → Looked f a b → b.looks ≤ a.looks + 1
+one_more {f} {a} {b} one = omega (arith, one.looks)
 
 pub on_then : {f g : Type 0} {a b c : WalkView} → LooksOn f a b → LooksOn g b c → LooksOn g a c
 on_then {f} {g} {a} {b} {c} first second = record {

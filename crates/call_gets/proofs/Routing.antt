@@ -152,6 +152,9 @@ along test path (x ∷ xs) s e = by (test x) refl (along test (path_with level p
 pub record Routed (view : List Spot) (at : Anchor) (s : Spot) : Type 0 where
   pub path : path_of at view ≡ path_at view s
   pub follows : paths_behind at (on_paths view) ≡ with_paths level (path_at view s) (behind at view)
+  pub front : List Spot
+  pub split : view ≡ front ++ s ∷ behind at view
+  pub precedes : before s.at view ≡ front
 
 pub routed : (view : List Spot) (at : Anchor) (s : Spot) → Differ view → found_at at view ≡ Some s → Routed view at s
 routed view Front s d e = absurd (let no : ⊥ = cc in no)
@@ -162,6 +165,9 @@ routed view (At name root entry) s d e =
     record {
       path = ap (λ (o : Option OnPath). option_map_or (λ p. p.0) o []) a.found ∙ same;
       follows = a.follows ∙ ap (λ (ys : List Spot). with_paths level ys a.rest) same ∙ ap (with_paths level (path_at view s)) (sym a.plain);
+      front = a.front;
+      split = a.is ∙ ap (λ (ys : List Spot). a.front ++ s ∷ ys) (sym a.plain);
+      precedes = q.precedes;
     }
 
 -- ---- the climb

@@ -1,5 +1,5 @@
 -- What a scan of the view in hierarchic sequence finds: it goes from element to element, and carries the path.
-use Rattle.std.specs.Prelude.{◌≡◌, ℕ, ◌==◌, ◌-◌, ◌^◌, ◌≤◌, min, nat_lt, Bool, true, false, not, List, [], ◌∷◌, ◌++◌, find, All, Option, None, Some, IfSome, if◌then◌else◌}
+use Rattle.std.specs.Prelude.{◌≡◌, ℕ, ◌==◌, ◌-◌, ◌^◌, ◌≤◌, min, nat_lt, Bool, true, false, not, List, [], ◌∷◌, ◌++◌, find, filter, All, Option, None, Some, IfSome, if◌then◌else◌}
 use Rattle.std.specs.Option.{ForSome, option_map, option_map_or, option_and_then}
 use Rattle.hal_base.specs.Fault.{Fails}
 use Rattle.hal_schema.specs.declared.row.Row.{Row}
@@ -15,7 +15,7 @@ use Rattle.position_state.specs.View.{view_of, is_at, behind}
 use Rattle.position_state.specs.Looks.{WalkView, found_at}
 use Rattle.dli_calls.specs.Ssas.{code_named}
 use Rattle.dli_calls.specs.Meets.{on_paths, meets, ssa_holds}
-use Rattle.dli_calls.specs.Gets.{OnPath}
+use Rattle.dli_calls.specs.Gets.{OnPath, is_below_parent, paths_behind}
 use Rattle.dli_calls.specs.Decided.{decision_of}
 use Rattle.dli_calls.specs.declared.decision.Decision.{Decision}
 use Rattle.call_gets.specs.declared.scan.Met.{Met}
@@ -72,6 +72,21 @@ IsVerdict schema view ssas path spot Meets = meets schema None view ssas (path, 
 IsVerdict schema view ssas path spot Open = meets schema None view ssas (path, spot) ≡ false
 IsVerdict schema view ssas path spot Closed = IsClosed schema view ssas path
 
+-- ---- the path to a place
+
+abbrev pub path_of : Anchor → List Spot → List Spot
+path_of Front view = []
+path_of (At name root entry) view = option_map_or (λ p. p.0) (find (λ p. is_at (At name root entry) p.1) (on_paths view)) []
+
+-- the path to a place, of elements as the view has them
+pub record IsPath (view : List Spot) (at : Anchor) (path : List Spot) : Type 0 where
+  pub same : path ≡ path_of at view
+  pub found : All (IsFound view) path
+
+-- the level of the first element of a path that is at a place
+abbrev pub level_at : List Spot → Anchor → Option ℕ
+level_at path at = option_map (λ (spot : Spot). spot.level) (find (is_at at) path)
+
 -- ---- many
 
 -- an element, and what stands behind it
@@ -92,6 +107,10 @@ first_inside top test (p ∷ paths) = if not (is_inside top p.1) then None else 
 abbrev pub met_from : Schema → List Spot → List Ssa → Option ℕ → List Spot → Option Spot → Option OnPath
 met_from schema view ssas top path next = first_inside top (meets schema None view ssas) (with_paths (λ spot. spot.level) path (from_on view next))
 
+-- what a scan finds behind a place
+abbrev pub met_behind : Schema → List Ssa → Option ℕ → Anchor → List Spot → Option OnPath
+met_behind schema ssas top at view = first_inside top (meets schema None view ssas) (with_paths (λ spot. spot.level) (path_of at view) (behind at view))
+
 abbrev pub on_its_path : Met → OnPath
 on_its_path met = (met.above.items ++ met.spot ∷ [], met.spot)
 
@@ -108,18 +127,11 @@ abbrev pub Steps : Schema → WalkView → List Ssa → Option ℕ → List Spot
 Steps schema seen ssas top old spot new step =
     IfSome seen.forest (λ rows. let view = plain_view schema rows in IsStep schema view ssas top (met_from schema view ssas top old (Some spot)) new step)
 
--- ---- the path to a place
-
-abbrev pub path_of : Anchor → List Spot → List Spot
-path_of Front view = []
-path_of (At name root entry) view = option_map_or (λ p. p.0) (find (λ p. is_at (At name root entry) p.1) (on_paths view)) []
-
--- the path to a place, of elements as the view has them
-pub record IsPath (view : List Spot) (at : Anchor) (path : List Spot) : Type 0 where
-  pub same : path ≡ path_of at view
-  pub found : All (IsFound view) path
-
 -- ---- gets
+
+-- what a GNP finds: the first behind one place and below another that meets the SSAs
+abbrev pub met_below : Schema → List Ssa → Anchor → Anchor → List Spot → Option OnPath
+met_below schema ssas at parent view = find (meets schema None view ssas) (filter (is_below_parent (Some parent)) (paths_behind at (on_paths view)))
 
 -- where the list is told, this is what is wanted of its view
 abbrev pub IsGot : Schema → WalkView → (List Spot → Option OnPath) → Option Met → Type 0

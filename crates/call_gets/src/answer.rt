@@ -1,16 +1,17 @@
 // What a get is answered, and what it leaves of its session.
-ghost use Rattle.std.specs.Prelude.{◌≡◌, ◌==◌, ◌&&◌, ◌||◌, length, true, false, codes, nat_lt, if◌then◌else◌, IfOk, IfSome, IsErrOf, IsTrue, None, Some};
+ghost use Rattle.std.specs.Prelude.{◌≡◌, ◌≤◌, ◌+◌, ◌==◌, ◌&&◌, length, true, false, codes, nat_lt, if◌then◌else◌, IfOk, IfSome, IsErrOf, IsTrue, None, Some};
 ghost use Rattle.std.specs.List.{list_all, list_any};
 ghost use Rattle.std.specs.Option.{ForSome, option_copied, option_map};
 ghost use Rattle.hal_schema.specs.SegType.{type_of};
 ghost use Rattle.position_state.specs.declared.spot.Change.TheVariants.{Nothing};
 ghost use Rattle.position_state.specs.Lawful.{Stands};
 ghost use Rattle.dli_calls.specs.Decided.{after_refusal, found, reply_of};
-ghost use Rattle.dli_calls.specs.Gets.{after_get, crossing, got_status, is_hold, is_next, is_unique, shown_content};
+ghost use Rattle.dli_calls.specs.Gets.{after_get, crossing, got_status, is_get, is_hold, is_next, is_unique, shown_content};
 ghost use Rattle.dli_calls.specs.Meets.{is_of};
 ghost use Rattle.dli_calls.specs.Refusals.{asks_high_root};
 ghost use Rattle.dli_calls.specs.Ssas.{asks_data};
 ghost use Rattle.call_gets.specs.Scan.{IsDecided, LooksOn, on_its_path};
+ghost use Rattle.call_gets.specs.Shown.{is_of_any};
 
 use crate::form::asks_data;
 use crate::functions::{is_hold, is_next, is_unique, is_within_parent};
@@ -27,8 +28,8 @@ use hal_schema::Schema;
 use position_state::{Anchor, Change, Session, Spot, Walk, WalkFault};
 use std::alloc::Global;
 
-/// The decision of GU, GN or one of their hold forms, in a session that sees the database in hierarchic sequence. Refusals
-/// by text and session come before any look.
+/// The decision of a get, in a session that sees the database in hierarchic sequence. Refusals by text and session come
+/// before any look.
 pub fn decide_get<W: Walk>(
     alloc: Global,
     schema: &Schema,
@@ -38,10 +39,11 @@ pub fn decide_get<W: Walk>(
 ) -> Result<Decision, WalkFault>
     requires live { IsTrue (W.seen walk.old).live }
     requires plain { session.now.index ≡ None }
-    requires get { (is_unique call.now || is_next call.now) ≡ true }
+    requires get { is_get call.now ≡ true }
     requires schema { (W.seen walk.old).schema ≡ schema.now }
     requires stands { ForSome (W.seen walk.old).forest (λ rows. Stands schema.now rows session.now) }
     ensures decided { IfOk result (IsDecided schema.now (W.seen walk.old) session.now call.now) }
+    ensures few { is_of_any call.now ≡ true → (W.seen walk.new).looks ≤ (W.seen walk.old).looks + 2 }
     ensures looked { LooksOn (IsErrOf result WalkFault.Failed) (W.seen walk.old) (W.seen walk.new) }
 {
     if let Some(status) = text_refusal(schema, session, call) {
@@ -149,6 +151,7 @@ fn found<W: Walk>(
     requires plain { session.now.index ≡ None }
     requires schema { (W.seen walk.old).schema ≡ schema.now }
     ensures found { IfOk result (λ d. IfSome (W.seen walk.old).forest (λ rows. d ≡ found schema.now rows session.now call.now (on_its_path met.now))) }
+    ensures few { (W.seen walk.new).looks ≤ (W.seen walk.old).looks + 1 }
     ensures looked { LooksOn (IsErrOf result WalkFault.Failed) (W.seen walk.old) (W.seen walk.new) }
 {
     let status = got_status(session, call, walk, &met.spot)?;
@@ -179,6 +182,7 @@ fn got_status<W: Walk>(
     requires plain { session.now.index ≡ None }
     ensures status { IfOk result (λ status. IfSome (W.seen walk.old).forest
         (λ rows. status ≡ got_status (W.seen walk.old).schema rows call.now session.now spot.now)) }
+    ensures few { (W.seen walk.new).looks ≤ (W.seen walk.old).looks + 1 }
     ensures looked { LooksOn (IsErrOf result WalkFault.Failed) (W.seen walk.old) (W.seen walk.new) }
 {
     if is_unique(call) || call.ssas.len() != 0 {

@@ -7,10 +7,10 @@
 //! - `names`: what names, codes and a session's index stand for in a schema;
 //! - `subjects`: what clauses speak of; `refusals`: the first refusal by text and session;
 //! - `clauses`: which elements make clauses true; `judged`: which meet a list of SSAs; `scan`: the first that does;
-//! - `route`: the path to a place; `gets`: what GU and GN find, and `high`: whether they ask above every high key; `answer`:
-//!   their decision.
+//! - `route`: the path to a place; `place`: whether two are one; `gets`: what gets find, and `high`: whether they ask above
+//!   every high key; `answer`: their decision.
 //!
-//! `specs/Scan.antt` has what a scan finds.
+//! `specs/Scan.antt` has what a scan finds, `specs/Shown.antt` what a get gives of it.
 #![tactic(auto)]
 
 mod answer;
@@ -23,6 +23,7 @@ mod judged;
 mod names;
 mod options;
 mod path;
+mod place;
 mod refusals;
 mod route;
 mod scan;

@@ -1,4 +1,4 @@
-use Rattle.std.proofs.Common.{◌≡◌, ℕ, List, Option, sym, ap, ◌∙◌}
+use Rattle.std.proofs.Common.{◌≡◌, ℕ, List, Option, sym, ap, ◌∙◌, arith}
 use Rattle.std.specs.Prelude.{IfSome}
 use Rattle.std.specs.Option.{option_map}
 use Rattle.hal_schema.specs.declared.row.Row.{Row}
@@ -7,8 +7,10 @@ use Rattle.dli_calls.specs.Decided.{decision_of, found}
 use Rattle.dli_calls.specs.Gets.{got}
 use Rattle.call_gets.specs.declared.scan.Met.{Met}
 use Rattle.call_gets.specs.Scan.{on_its_path}
+use Rattle.call_gets.specs.Shown.{given}
 use Rattle.call_gets.proofs.Deciding.{only_get, decided_text, decided_content, decided_high, decided_none, decided_found}
 use Rattle.call_gets.proofs.Finding.{if_ok}
+use Rattle.call_gets.proofs.Giving.{given_none, given_some, found_alike}
 use Rattle.call_gets.proofs.Looking.{where_told, told_at}
 use Rattle.call_gets.proofs.answer.decide_get.Goals as goal
 
@@ -38,7 +40,10 @@ returns-in_ok-refused-in-None-clause-decided g c =
     (λ rows e free. decided_none c.args.schema.now rows free c.args.session.now c.args.call.now c.status_of_none.result c.in_ok-refused-in-None.field-0
     (record { only = only_get c.args.call.now c.requires.get; plain = c.requires.plain; text = sym c.text_refusal.ensures ∙ c.in_default.is })
     (sym c.is_some.ensures ∙ c.if-is_some.false) (sym c.in_ok-asks_for_high_root.ensures ∙ c.if-branch.false)
-    (ap (λ (o : Option Met). option_map on_its_path o) (sym c.in-None.is) ∙ told_at a.forest rows (λ (r : List Row). option_map on_its_path c.in_ok-got.field-0 ≡ got c.args.schema.now r c.args.call.now c.args.session.now) e c.in_ok-got.ensures.got)
+    (given_none c.args.schema.now c.args.call.now.ssas (got c.args.schema.now rows c.args.call.now c.args.session.now)
+    (ap (λ (o : Option Met). option_map (given c.args.schema.now c.args.call.now.ssas) (option_map on_its_path o)) (sym c.in-None.is)
+    ∙ told_at a.forest rows (λ (r : List Row). option_map (given c.args.schema.now c.args.call.now.ssas) (option_map on_its_path c.in_ok-got.field-0)
+    ≡ option_map (given c.args.schema.now c.args.call.now.ssas) (got c.args.schema.now r c.args.call.now c.args.session.now)) e c.in_ok-got.ensures.got))
     c.status_of_none.ensures c.in_ok-refused-in-None.ensures)
 
 pub returns-in-Some-2-clause-decided : goal.returns-in-Some-2-clause-decided
@@ -51,9 +56,22 @@ returns-in-Some-2-clause-decided g c =
     if_ok c.found.result (λ (d : Decision). IfSome b.forest (λ (rows : List Row). d ≡ found schema rows session call (on_its_path c.in-Some-2.met)))
     (λ (d : Decision). IfSome a.forest (λ (rows : List Row). (free : ℕ) → d ≡ decision_of schema rows free session call))
     (λ d h. where_told a.forest (λ (rows : List Row). (free : ℕ) → d ≡ decision_of schema rows free session call)
-    (λ rows e free. decided_found schema rows free session call (on_its_path c.in-Some-2.met) d
+    (λ rows e free.
+    let same = given_some schema call.ssas (on_its_path c.in-Some-2.met) (got schema rows call session)
+    (ap (λ (o : Option Met). option_map (given schema call.ssas) (option_map on_its_path o)) (sym c.in-Some-2.is)
+    ∙ told_at a.forest rows (λ (r : List Row). option_map (given schema call.ssas) (option_map on_its_path c.in_ok-got.field-0) ≡ option_map (given schema call.ssas) (got schema r call session)) e c.in_ok-got.ensures.got) in
+    decided_found schema rows free session call same.one d
     (record { only = only_get call c.requires.get; plain = c.requires.plain; text = sym c.text_refusal.ensures ∙ c.in_default.is })
     (sym c.is_some.ensures ∙ c.if-is_some.false) (sym c.in_ok-asks_for_high_root.ensures ∙ c.if-branch.false)
-    (ap (λ (o : Option Met). option_map on_its_path o) (sym c.in-Some-2.is) ∙ told_at a.forest rows (λ (r : List Row). option_map on_its_path c.in_ok-got.field-0 ≡ got schema r call session) e c.in_ok-got.ensures.got)
-    (told_at b.forest rows (λ (r : List Row). d ≡ found schema r session call (on_its_path c.in-Some-2.met)) (c.got.ensures.looked.forest ∙ e) h)))
+    same.is
+    (told_at b.forest rows (λ (r : List Row). d ≡ found schema r session call (on_its_path c.in-Some-2.met)) (c.got.ensures.looked.forest ∙ e) h
+    ∙ found_alike schema rows session call (on_its_path c.in-Some-2.met) same.one same.same)))
     c.found.ensures.found
+
+-- without an SSA there are two looks at most
+
+pub returns-in_ok-refused-in-None-clause-few : goal.returns-in_ok-refused-in-None-clause-few
+returns-in_ok-refused-in-None-clause-few g c = λ e. omega (arith, c.got.ensures.few e)
+
+pub returns-in-Some-2-clause-few : goal.returns-in-Some-2-clause-few
+returns-in-Some-2-clause-few g c = λ e. omega (arith, c.got.ensures.few e, c.found.ensures.few)
