@@ -9,6 +9,7 @@ mod Listing
 mod Looking
 mod Moving
 mod Parting
+mod Roots
 mod Routing
 mod Showing
 mod Skipping
