@@ -1,5 +1,6 @@
 mod Asking
 mod Below
+mod ByKey
 mod Climbs
 mod Deciding
 mod Finding

@@ -1,3 +1,4 @@
+pub mod Keyed
 pub mod Scan
 pub mod Shown
 pub mod Texts

@@ -1,0 +1,32 @@
+-- A GU by the root's key. IMS: a call whose SSA is qualified on the sequence field alone.
+use Rattle.std.specs.Prelude.{ℕ, ◌==◌, Bool, false, not, ◌&&◌, List, [], ◌∷◌, codes, Option, None, Some, option_and_then, if◌then◌else◌}
+use Rattle.std.specs.Option.{option_map_or}
+use Rattle.std.specs.Str.{bytes_eq}
+use Rattle.hal_schema.specs.declared.schema.Schema.{Schema}
+use Rattle.call_text.specs.declared.line.Call.{Call}
+use Rattle.call_text.specs.declared.line.Clause.{Clause}
+use Rattle.call_text.specs.declared.line.Ssa.{Ssa}
+use Rattle.dli_calls.specs.Ssas.{Subject, Content, Search, asks_last, code_named, fitted, subject_of}
+use Rattle.dli_calls.specs.Gets.{is_unique}
+use Rattle.dli_calls.specs.Refusals.{is_at_root_key}
+
+abbrev pub one_of : {X : Type 0} → List X → Option X
+one_of [] = None
+one_of (x ∷ []) = Some x
+one_of (x ∷ y ∷ more) = None
+
+-- the value that a clause wants the root key to equal
+abbrev pub key_wanted : Schema → Clause → Option Subject → Option (List ℕ)
+key_wanted schema clause None = None
+key_wanted schema clause (Some (Search bytes)) = None
+key_wanted schema clause (Some (Content f)) = if is_at_root_key schema f && bytes_eq clause.op (codes "=") then fitted f.bytes clause.value else None
+
+-- the root key that an SSA asks for: the root's, without L, with exactly one such clause
+abbrev pub root_wanted : Schema → Ssa → Option (List ℕ)
+root_wanted schema ssa =
+    if option_map_or (λ code. code == 1) (code_named schema ssa.seg) false && not (asks_last ssa)
+    then option_and_then (λ clause. key_wanted schema clause (subject_of schema None 1 clause.field)) (one_of ssa.clauses) else None
+
+-- the root key that a GU asks for whose only SSA asks for one
+abbrev pub keyed_by : Schema → Call → Option (List ℕ)
+keyed_by schema call = if is_unique call then option_and_then (root_wanted schema) (one_of call.ssas) else None
