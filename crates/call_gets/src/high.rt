@@ -32,7 +32,7 @@ fn is_one_of_root(schema: &Schema, ssa: &Ssa) -> bool
     is_of_root(schema, ssa) && ssa.clauses.len() == 1
 }
 
-fn is_of_root(schema: &Schema, ssa: &Ssa) -> bool
+pub(crate) fn is_of_root(schema: &Schema, ssa: &Ssa) -> bool
     ensures { result ≡ option_map_or (λ code. code == 1) (code_named schema.now ssa.now.seg) false }
 {
     match code_named(schema, ssa.seg) {
@@ -75,7 +75,7 @@ fn is_above_all(schema: &Schema, value: &Value, bytes: u16) -> Result<bool, Memo
     }
 }
 
-fn is_at_root_key(schema: &Schema, field: &Field) -> bool
+pub(crate) fn is_at_root_key(schema: &Schema, field: &Field) -> bool
     ensures { result ≡ is_at_root_key schema.now field.now }
 {
     match type_of(schema, 1) {

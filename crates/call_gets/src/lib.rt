@@ -8,7 +8,7 @@
 //! - `subjects`: what clauses speak of; `refusals`: the first refusal by text and session;
 //! - `clauses`: which elements make clauses true; `judged`: which meet a list of SSAs; `scan`: the first that does;
 //! - `route`: the path to a place; `place`: whether two are one; `gets`: what gets find, and `high`: whether they ask above
-//!   every high key; `answer`: their decision.
+//!   every high key; `keyed`: the root key that a GU asks for; `answer`: their decision.
 //!
 //! `specs/Scan.antt` has what a scan finds, `specs/Shown.antt` what a get gives of it.
 #![tactic(auto)]
@@ -20,6 +20,7 @@ mod functions;
 mod gets;
 mod high;
 mod judged;
+mod keyed;
 mod names;
 mod options;
 mod path;
