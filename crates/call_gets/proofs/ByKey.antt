@@ -1,6 +1,6 @@
 -- What an SSA for one root key meets: the root that has it.
 use Rattle.std.proofs.Common.{◌≡◌, ℕ, ◌==◌, Bool, true, false, not, cond, ◌&&◌, List, [], ◌∷◌, ◌++◌, Option, None, Some, refl, sym, ap, ◌∙◌, arith}
-use Rattle.std.specs.Prelude.{codes, find, nat_lt, option_and_then}
+use Rattle.std.specs.Prelude.{codes, find, is_some, nat_lt, option_and_then}
 use Rattle.std.specs.List.{list_all, list_any}
 use Rattle.std.specs.Option.{option_map, option_map_or}
 use Rattle.std.specs.Ordering.{is_eq}
@@ -18,16 +18,17 @@ use Rattle.hal_schema.specs.declared.schema.Schema.{Schema}
 use Rattle.hal_schema.specs.declared.schema.SegType.{SegType}
 use Rattle.hal_schema.specs.Keys.{key_cmp}
 use Rattle.hal_schema.specs.SegType.{type_of, portion}
+use Rattle.call_text.specs.declared.line.Call.{Call}
 use Rattle.call_text.specs.declared.line.Clause.{Clause}
 use Rattle.call_text.specs.declared.line.Ssa.{Ssa}
 use Rattle.position_state.specs.declared.spot.Spot.{Spot}
 use Rattle.dli_calls.specs.Ssas.{Subject, Content, Search, asks_last, clause_holds, code_named, compares, fitted, operator_of, subject_of}
 use Rattle.position_state.specs.Looks.{root_of_key}
 use Rattle.hal_schema.specs.Paths.{path_with, with_paths}
-use Rattle.dli_calls.specs.Meets.{clauses_hold, holds_on, is_of, later_twins, meets, on_paths, ssa_holds}
-use Rattle.dli_calls.specs.Gets.{OnPath}
+use Rattle.dli_calls.specs.Meets.{clauses_hold, holds_on, later_twins, meets, on_paths, ssa_holds}
+use Rattle.dli_calls.specs.Gets.{OnPath, is_unique}
 use Rattle.dli_calls.specs.Refusals.{is_at_root_key}
-use Rattle.call_gets.specs.Keyed.{key_wanted, one_of, root_wanted}
+use Rattle.call_gets.specs.Keyed.{key_wanted, keyed_by, one_of, root_wanted}
 use Rattle.call_gets.proofs.Roots.{is_keyed, root_key}
 use Rattle.call_gets.proofs.Skipping.{level, kept}
 
@@ -199,3 +200,30 @@ by_key schema view ssa key w path (x ∷ xs) h k =
 pub found_by_key : (schema : Schema) (view : List Spot) (ssa : Ssa) (key : List ℕ) → root_wanted schema ssa ≡ Some key → list_all (is_keyed schema.types) view ≡ true
     → option_map (λ (s : Spot). (s ∷ [], s)) (root_of_key key view) ≡ find (meets schema None view (ssa ∷ [])) (on_paths view)
 found_by_key schema view ssa key e h = sym (by_key schema view ssa key (wants schema ssa key e) [] view refl h)
+
+ssa_is : (ssas : List Ssa) (ssa : Ssa) → one_of ssas ≡ Some ssa → ssas ≡ ssa ∷ []
+ssa_is [] ssa e = absurd (let no : ⊥ = cc in no)
+ssa_is (x ∷ []) ssa e = let same : x ≡ ssa = cc in ap (λ (y : Ssa). y ∷ []) same
+ssa_is (x ∷ y ∷ more) ssa e = absurd (let no : ⊥ = cc in no)
+
+pub found_by_call : (schema : Schema) (view : List Spot) (call : Call) (key : List ℕ) → keyed_by schema call ≡ Some key → list_all (is_keyed schema.types) view ≡ true
+    → option_map (λ (s : Spot). (s ∷ [], s)) (root_of_key key view) ≡ find (meets schema None view call.ssas) (on_paths view)
+found_by_call schema view call key e h = first (is_unique call) e
+  where
+    second : (o : Option Ssa) → one_of call.ssas ≡ o → option_and_then (root_wanted schema) o ≡ Some key → option_map (λ (s : Spot). (s ∷ [], s)) (root_of_key key view) ≡ find (meets schema None view call.ssas) (on_paths view)
+    second None s k = absurd (let no : ⊥ = cc in no)
+    second (Some ssa) s k = found_by_key schema view ssa key k h ∙ ap (λ (ssas : List Ssa). find (meets schema None view ssas) (on_paths view)) (sym (ssa_is call.ssas ssa s))
+
+    first : (b : Bool) → cond b (option_and_then (root_wanted schema) (one_of call.ssas)) None ≡ Some key → option_map (λ (s : Spot). (s ∷ [], s)) (root_of_key key view) ≡ find (meets schema None view call.ssas) (on_paths view)
+    first true k = second (one_of call.ssas) refl k
+    first false k = absurd (let no : ⊥ = cc in no)
+
+pub not_keyed : (schema : Schema) (call : Call) → is_unique call ≡ false → is_some (keyed_by schema call) ≡ false
+not_keyed schema call e = ap (λ b. is_some (cond b (option_and_then (root_wanted schema) (one_of call.ssas)) None)) e
+
+pub keyed_unique : (schema : Schema) (call : Call) → is_some (keyed_by schema call) ≡ true → is_unique call ≡ true
+keyed_unique schema call e = by (is_unique call) refl
+  where
+    by : (b : Bool) → is_unique call ≡ b → b ≡ true
+    by true k = refl
+    by false k = absurd (true≢false (sym e ∙ not_keyed schema call k))

@@ -1,7 +1,6 @@
 -- What a get gives of the element that it finds, and the calls that every element meets.
 use Rattle.std.specs.Prelude.{◌≡◌, ℕ, ◌==◌, Bool, ◌&&◌, ◌||◌, List, length, Option, IfSome}
 use Rattle.std.specs.Option.{option_map}
-use Rattle.hal_schema.specs.declared.row.Row.{Row}
 use Rattle.hal_schema.specs.declared.schema.Schema.{Schema}
 use Rattle.call_text.specs.declared.line.Call.{Call}
 use Rattle.call_text.specs.declared.line.Ssa.{Ssa}

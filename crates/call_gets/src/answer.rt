@@ -1,5 +1,5 @@
 // What a get is answered, and what it leaves of its session.
-ghost use Rattle.std.specs.Prelude.{◌≡◌, ◌≤◌, ◌+◌, ◌==◌, ◌&&◌, length, true, false, codes, nat_lt, if◌then◌else◌, IfOk, IfSome, IsErrOf, IsTrue, None, Some};
+ghost use Rattle.std.specs.Prelude.{◌≡◌, is_some, ◌≤◌, ◌+◌, ◌==◌, ◌&&◌, length, true, false, codes, nat_lt, if◌then◌else◌, IfOk, IfSome, IsErrOf, IsTrue, None, Some};
 ghost use Rattle.std.specs.List.{list_all, list_any};
 ghost use Rattle.std.specs.Option.{ForSome, option_copied, option_map};
 ghost use Rattle.hal_schema.specs.SegType.{type_of};
@@ -12,6 +12,7 @@ ghost use Rattle.dli_calls.specs.Refusals.{asks_high_root};
 ghost use Rattle.dli_calls.specs.Ssas.{asks_data};
 ghost use Rattle.call_gets.specs.Scan.{IsDecided, LooksOn, on_its_path};
 ghost use Rattle.call_gets.specs.Shown.{is_of_any};
+ghost use Rattle.call_gets.specs.Keyed.{keyed_by};
 
 use crate::form::asks_data;
 use crate::functions::{is_hold, is_next, is_unique, is_within_parent};
@@ -44,6 +45,7 @@ pub fn decide_get<W: Walk>(
     requires stands { ForSome (W.seen walk.old).forest (λ rows. Stands schema.now rows session.now) }
     ensures decided { IfOk result (IsDecided schema.now (W.seen walk.old) session.now call.now) }
     ensures few { is_of_any call.now ≡ true → (W.seen walk.new).looks ≤ (W.seen walk.old).looks + 2 }
+    ensures keyed { is_some (keyed_by schema.now call.now) ≡ true → (W.seen walk.new).looks ≤ (W.seen walk.old).looks + 1 }
     ensures looked { LooksOn (IsErrOf result WalkFault.Failed) (W.seen walk.old) (W.seen walk.new) }
 {
     if let Some(status) = text_refusal(schema, session, call) {
@@ -152,6 +154,7 @@ fn found<W: Walk>(
     requires schema { (W.seen walk.old).schema ≡ schema.now }
     ensures found { IfOk result (λ d. IfSome (W.seen walk.old).forest (λ rows. d ≡ found schema.now rows session.now call.now (on_its_path met.now))) }
     ensures few { (W.seen walk.new).looks ≤ (W.seen walk.old).looks + 1 }
+    ensures unique { is_unique call.now ≡ true → (W.seen walk.new).looks ≤ (W.seen walk.old).looks }
     ensures looked { LooksOn (IsErrOf result WalkFault.Failed) (W.seen walk.old) (W.seen walk.new) }
 {
     let status = got_status(session, call, walk, &met.spot)?;
@@ -183,6 +186,7 @@ fn got_status<W: Walk>(
     ensures status { IfOk result (λ status. IfSome (W.seen walk.old).forest
         (λ rows. status ≡ got_status (W.seen walk.old).schema rows call.now session.now spot.now)) }
     ensures few { (W.seen walk.new).looks ≤ (W.seen walk.old).looks + 1 }
+    ensures unique { is_unique call.now ≡ true → (W.seen walk.new).looks ≤ (W.seen walk.old).looks }
     ensures looked { LooksOn (IsErrOf result WalkFault.Failed) (W.seen walk.old) (W.seen walk.new) }
 {
     if is_unique(call) || call.ssas.len() != 0 {

@@ -1,19 +1,22 @@
 // What a get finds in the view of its session.
-ghost use Rattle.std.specs.Prelude.{◌≡◌, ◌≤◌, ◌+◌, ◌==◌, ◌∷◌, [], length, true, find, IfOk, IfSome, IsErrOf, IsTrue, None, Some};
+ghost use Rattle.std.specs.Prelude.{◌≡◌, is_some, ◌≤◌, ◌+◌, ◌==◌, ◌∷◌, [], length, true, find, IfOk, IfSome, IsErrOf, IsTrue, None, Some};
 ghost use Rattle.position_state.specs.View.{behind, is_at};
 ghost use Rattle.std.specs.Option.{ForSome, option_map};
 ghost use Rattle.position_state.specs.Lawful.{Stands};
-ghost use Rattle.position_state.specs.Looks.{first_behind, stands_in};
+ghost use Rattle.position_state.specs.Looks.{first_behind, root_of_key, stands_in};
 ghost use Rattle.dli_calls.specs.Gets.{paths_behind};
 ghost use Rattle.dli_calls.specs.Meets.{meets, on_paths};
 ghost use Rattle.call_gets.specs.Scan.{IsGot, IsPath, LooksOn, level_at, met_behind, met_below, on_its_path, path_of, plain_view};
 ghost use Rattle.call_gets.specs.Shown.{IsGiven, IsGotBy, is_of_any};
+ghost use Rattle.call_gets.specs.Keyed.{keyed_by};
 
 use crate::functions::{is_next, is_unique};
+use crate::keyed::keyed_by;
 use crate::place::is_same_place;
 use crate::route::path_to;
 use crate::scan::{Met, first_met};
 use call_text::{Call, Ssa};
+use hal_base::Bytes;
 use hal_schema::Schema;
 use position_state::{Anchor, Session, Spot, Walk, WalkFault};
 use std::alloc::Global;
@@ -34,18 +37,54 @@ pub(crate) fn got<W: Walk>(
     requires stands { ForSome (W.seen walk.old).forest (λ rows. Stands schema.now rows session.now) }
     ensures got { IfOk result (IsGotBy schema.now (W.seen walk.old) session.now call.now) }
     ensures few { is_of_any call.now ≡ true → (W.seen walk.new).looks ≤ (W.seen walk.old).looks + 1 }
+    ensures keyed { is_some (keyed_by schema.now call.now) ≡ true → (W.seen walk.new).looks ≤ (W.seen walk.old).looks + 1 }
     ensures looked { LooksOn (IsErrOf result WalkFault.Failed) (W.seen walk.old) (W.seen walk.new) }
 {
-    let ssas = call.ssas.as_slice();
     if is_unique(call) {
-        return first_behind(alloc, walk, schema, ssas, &Anchor::Front);
+        return first_of_all(alloc, walk, schema, call);
     }
+    let ssas = call.ssas.as_slice();
     if is_next(call) {
         return first_behind(alloc, walk, schema, ssas, &session.anchor);
     }
     match &session.parent {
         None => Ok(None),
         Some(parent) => first_below(alloc, walk, schema, ssas, &session.anchor, parent),
+    }
+}
+
+/// The first element of the view that meets a call's SSAs: by the root's key, where no more is asked.
+fn first_of_all<W: Walk>(
+    alloc: Global,
+    walk: &mut W,
+    schema: &Schema,
+    call: &Call,
+) -> Result<Option<Met>, WalkFault>
+    requires live { IsTrue (W.seen walk.old).live }
+    requires schema { (W.seen walk.old).schema ≡ schema.now }
+    ensures got { IfOk result (IsGiven schema.now call.now.ssas (W.seen walk.old) (λ view. find (meets schema.now None view call.now.ssas) (on_paths view))) }
+    ensures few { length call.now.ssas == 0 ≡ true → (W.seen walk.new).looks ≤ (W.seen walk.old).looks + 1 }
+    ensures keyed { is_some (keyed_by schema.now call.now) ≡ true → (W.seen walk.new).looks ≤ (W.seen walk.old).looks + 1 }
+    ensures looked { LooksOn (IsErrOf result WalkFault.Failed) (W.seen walk.old) (W.seen walk.new) }
+{
+    let ssas = call.ssas.as_slice();
+    match keyed_by(schema, call)? {
+        None => first_behind(alloc, walk, schema, ssas, &Anchor::Front),
+        Some(key) => root_with(alloc, walk, &key),
+    }
+}
+
+/// The root with a key.
+fn root_with<W: Walk>(alloc: Global, walk: &mut W, key: &Bytes) -> Result<Option<Met>, WalkFault>
+    requires live { IsTrue (W.seen walk.old).live }
+    ensures met { IfOk result (λ met. IfSome (W.seen walk.old).forest (λ rows.
+        option_map on_its_path met ≡ option_map (λ spot. (spot ∷ [], spot)) (root_of_key key.now (plain_view (W.seen walk.old).schema rows)))) }
+    ensures few { (W.seen walk.new).looks ≤ (W.seen walk.old).looks + 1 }
+    ensures looked { LooksOn (IsErrOf result WalkFault.Failed) (W.seen walk.old) (W.seen walk.new) }
+{
+    match walk.at_root(key.as_slice())? {
+        None => Ok(None),
+        Some(spot) => Ok(Some(alone(alloc, spot))),
     }
 }
 

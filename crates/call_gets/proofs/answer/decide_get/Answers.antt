@@ -10,6 +10,7 @@ use Rattle.call_gets.specs.Scan.{on_its_path}
 use Rattle.call_gets.specs.Shown.{given}
 use Rattle.call_gets.proofs.Deciding.{only_get, decided_text, decided_content, decided_high, decided_none, decided_found}
 use Rattle.call_gets.proofs.Finding.{if_ok}
+use Rattle.call_gets.proofs.ByKey.{keyed_unique}
 use Rattle.call_gets.proofs.Giving.{given_none, given_some, found_alike}
 use Rattle.call_gets.proofs.Looking.{where_told, told_at}
 use Rattle.call_gets.proofs.answer.decide_get.Goals as goal
@@ -75,3 +76,11 @@ returns-in_ok-refused-in-None-clause-few g c = λ e. omega (arith, c.got.ensures
 
 pub returns-in-Some-2-clause-few : goal.returns-in-Some-2-clause-few
 returns-in-Some-2-clause-few g c = λ e. omega (arith, c.got.ensures.few e, c.found.ensures.few)
+
+-- a get by the root's key has one look at most
+
+pub returns-in_ok-refused-in-None-clause-keyed : goal.returns-in_ok-refused-in-None-clause-keyed
+returns-in_ok-refused-in-None-clause-keyed g c = λ e. c.got.ensures.keyed e
+
+pub returns-in-Some-2-clause-keyed : goal.returns-in-Some-2-clause-keyed
+returns-in-Some-2-clause-keyed g c = λ e. omega (arith, c.got.ensures.keyed e, c.found.ensures.unique (keyed_unique c.args.schema.now c.args.call.now e))

@@ -1,24 +1,21 @@
-use Rattle.std.proofs.Common.{◌≡◌, ◌==◌, Bool, true, false, ◌&&◌, ◌||◌, length, List, Option, None, Some, refl, sym, ap, subst, ◌∙◌}
+use Rattle.std.proofs.Common.{◌≡◌, ◌==◌, Bool, true, false, ◌&&◌, ◌||◌, length, List, Option, None, refl, sym, ap, subst, ◌∙◌}
 use Rattle.std.specs.Prelude.{find, IfSome}
 use Rattle.std.specs.Option.{option_map}
 use Rattle.std.proofs.lemmas.Bool.{true≢false, and_parts, or_from}
 use Rattle.hal_schema.specs.declared.row.Row.{Row}
 use Rattle.call_text.specs.declared.line.Ssa.{Ssa}
-use Rattle.position_state.specs.declared.session.Anchor.TheVariants.{Front}
 use Rattle.position_state.specs.View.{view_of, is_place_of}
 use Rattle.dli_calls.specs.Meets.{meets, on_paths}
 use Rattle.dli_calls.specs.Gets.{got, is_next, is_unique, paths_behind}
 use Rattle.call_gets.specs.Scan.{IsGot, met_below, on_its_path, plain_view}
 use Rattle.call_gets.specs.Shown.{IsGiven, given}
 use Rattle.call_gets.proofs.Looking.{where_told, told_at, stands_at}
-use Rattle.call_gets.proofs.Finding.{if_ok, front_stands, got_unique, got_next, got_below, got_nowhere}
+use Rattle.call_gets.proofs.Finding.{if_ok, got_unique, got_next, got_below, got_nowhere}
+use Rattle.call_gets.proofs.ByKey.{not_keyed}
 use Rattle.call_gets.proofs.gets.got.Goals as goal
 
 pub first_behind-requires-clause-there : goal.first_behind-requires-clause-there
-first_behind-requires-clause-there g c = front_stands (g.W.Walk.seen c.args.walk.now)
-
-pub first_behind-requires-then-is_next-clause-there : goal.first_behind-requires-then-is_next-clause-there
-first_behind-requires-then-is_next-clause-there g c =
+first_behind-requires-clause-there g c =
     let a = g.W.Walk.seen c.args.walk.now in
     stands_at a a c.args.schema.now c.args.session.now.anchor refl refl c.requires.schema
     (λ rows e. ap (λ (o : Option _). is_place_of (view_of c.args.schema.now o rows) c.args.session.now.anchor) (sym c.requires.plain) ∙ (c.requires.stands rows e).anchor)
@@ -34,13 +31,12 @@ returns-then-is_unique-clause-got g c =
     let a = g.W.Walk.seen c.args.walk.now in
     let schema = c.args.schema.now in
     let call = c.args.call.now in
-    if_ok c.first_behind.result (IsGiven schema c.as_slice-ssas.result.now a (λ view. find (meets schema None view c.as_slice-ssas.result.now) (paths_behind Front (on_paths view))))
+    if_ok c.first_of_all.result (IsGiven schema call.ssas a (λ view. find (meets schema None view call.ssas) (on_paths view)))
     (λ met. IfSome a.forest (λ (rows : List Row). option_map (given schema call.ssas) (option_map on_its_path met) ≡ option_map (given schema call.ssas) (got schema rows call c.args.session.now)))
     (λ met h. where_told a.forest (λ (rows : List Row). option_map (given schema call.ssas) (option_map on_its_path met) ≡ option_map (given schema call.ssas) (got schema rows call c.args.session.now))
-    (λ rows k. subst (λ (ssas : List Ssa). option_map (given schema ssas) (option_map on_its_path met) ≡ option_map (given schema ssas) (find (meets schema None (plain_view schema rows) ssas) (on_paths (plain_view schema rows)))) c.as_slice-ssas.ensures
-    (told_at a.forest rows (λ (r : List Row). option_map (given schema c.as_slice-ssas.result.now) (option_map on_its_path met) ≡ option_map (given schema c.as_slice-ssas.result.now) (find (meets schema None (plain_view schema r) c.as_slice-ssas.result.now) (paths_behind Front (on_paths (plain_view schema r))))) k h)
+    (λ rows k. told_at a.forest rows (λ (r : List Row). option_map (given schema call.ssas) (option_map on_its_path met) ≡ option_map (given schema call.ssas) (find (meets schema None (plain_view schema r) call.ssas) (on_paths (plain_view schema r)))) k h
     ∙ ap (option_map (given schema call.ssas)) (got_unique schema rows call c.args.session.now (find (meets schema None (plain_view schema rows) call.ssas) (on_paths (plain_view schema rows))) c.requires.plain (sym c.is_unique.ensures ∙ c.if-is_unique.true) refl)))
-    c.first_behind.ensures.got
+    c.first_of_all.ensures.got
 
 pub returns-then-is_next-clause-got : goal.returns-then-is_next-clause-got
 returns-then-is_next-clause-got g c =
@@ -48,13 +44,13 @@ returns-then-is_next-clause-got g c =
     let schema = c.args.schema.now in
     let call = c.args.call.now in
     let at = c.args.session.now.anchor in
-    if_ok c.first_behind-then-is_next.result (IsGiven schema c.as_slice-ssas.result.now a (λ view. find (meets schema None view c.as_slice-ssas.result.now) (paths_behind at (on_paths view))))
+    if_ok c.first_behind.result (IsGiven schema c.as_slice-ssas.result.now a (λ view. find (meets schema None view c.as_slice-ssas.result.now) (paths_behind at (on_paths view))))
     (λ met. IfSome a.forest (λ (rows : List Row). option_map (given schema call.ssas) (option_map on_its_path met) ≡ option_map (given schema call.ssas) (got schema rows call c.args.session.now)))
     (λ met h. where_told a.forest (λ (rows : List Row). option_map (given schema call.ssas) (option_map on_its_path met) ≡ option_map (given schema call.ssas) (got schema rows call c.args.session.now))
     (λ rows k. subst (λ (ssas : List Ssa). option_map (given schema ssas) (option_map on_its_path met) ≡ option_map (given schema ssas) (find (meets schema None (plain_view schema rows) ssas) (paths_behind at (on_paths (plain_view schema rows))))) c.as_slice-ssas.ensures
     (told_at a.forest rows (λ (r : List Row). option_map (given schema c.as_slice-ssas.result.now) (option_map on_its_path met) ≡ option_map (given schema c.as_slice-ssas.result.now) (find (meets schema None (plain_view schema r) c.as_slice-ssas.result.now) (paths_behind at (on_paths (plain_view schema r))))) k h)
     ∙ ap (option_map (given schema call.ssas)) (got_next schema rows call c.args.session.now (find (meets schema None (plain_view schema rows) call.ssas) (paths_behind at (on_paths (plain_view schema rows)))) c.requires.plain (sym c.is_unique.ensures ∙ c.if-is_unique.false) (sym c.is_next.ensures ∙ c.if-is_next.true) refl)))
-    c.first_behind-then-is_next.ensures.got
+    c.first_behind.ensures.got
 
 pub returns-in-None-clause-got : goal.returns-in-None-clause-got
 returns-in-None-clause-got g c =
@@ -85,12 +81,12 @@ none_of u n b e uf nf = true≢false (sym (and_parts (u || n) b e).0 ∙ or_from
 pub returns-then-is_unique-clause-few : goal.returns-then-is_unique-clause-few
 returns-then-is_unique-clause-few g c = λ e.
     let call = c.args.call.now in
-    c.first_behind.ensures.few (ap (λ (ssas : List Ssa). length ssas == 0) c.as_slice-ssas.ensures ∙ (and_parts (is_unique call || is_next call) (length call.ssas == 0) e).1)
+    c.first_of_all.ensures.few (and_parts (is_unique call || is_next call) (length call.ssas == 0) e).1
 
 pub returns-then-is_next-clause-few : goal.returns-then-is_next-clause-few
 returns-then-is_next-clause-few g c = λ e.
     let call = c.args.call.now in
-    c.first_behind-then-is_next.ensures.few (ap (λ (ssas : List Ssa). length ssas == 0) c.as_slice-ssas.ensures ∙ (and_parts (is_unique call || is_next call) (length call.ssas == 0) e).1)
+    c.first_behind.ensures.few (ap (λ (ssas : List Ssa). length ssas == 0) c.as_slice-ssas.ensures ∙ (and_parts (is_unique call || is_next call) (length call.ssas == 0) e).1)
 
 pub returns-in-None-clause-few : goal.returns-in-None-clause-few
 returns-in-None-clause-few g c = λ e.
@@ -99,3 +95,15 @@ returns-in-None-clause-few g c = λ e.
 pub returns-in-Some-clause-few : goal.returns-in-Some-clause-few
 returns-in-Some-clause-few g c = λ e.
     absurd (none_of (is_unique c.args.call.now) (is_next c.args.call.now) (length c.args.call.now.ssas == 0) e (sym c.is_unique.ensures ∙ c.if-is_unique.false) (sym c.is_next.ensures ∙ c.if-is_next.false))
+
+pub returns-then-is_next-clause-keyed : goal.returns-then-is_next-clause-keyed
+returns-then-is_next-clause-keyed g c = λ e. absurd (true≢false (sym e ∙ not_keyed c.args.schema.now c.args.call.now (sym c.is_unique.ensures ∙ c.if-is_unique.false)))
+
+pub returns-in-None-clause-keyed : goal.returns-in-None-clause-keyed
+returns-in-None-clause-keyed g c = λ e. absurd (true≢false (sym e ∙ not_keyed c.args.schema.now c.args.call.now (sym c.is_unique.ensures ∙ c.if-is_unique.false)))
+
+pub returns-in-Some-clause-keyed : goal.returns-in-Some-clause-keyed
+returns-in-Some-clause-keyed g c = λ e. absurd (true≢false (sym e ∙ not_keyed c.args.schema.now c.args.call.now (sym c.is_unique.ensures ∙ c.if-is_unique.false)))
+
+pub returns-then-is_unique-clause-keyed : goal.returns-then-is_unique-clause-keyed
+returns-then-is_unique-clause-keyed g c = λ e. c.first_of_all.ensures.keyed e
