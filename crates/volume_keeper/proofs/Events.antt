@@ -5,7 +5,7 @@ use Rattle.std.specs.Io.KnownBytes.{Appends, append_known}
 use Rattle.std.proofs.KnownBytes.{Appends-nil}
 use Rattle.hal_base.specs.Room.{HasSayRoom}
 use Rattle.hal_base.specs.Said.{AppendsPart}
-use Rattle.hal_base.specs.Stops.{IsTold, LeavesOnly, LeavesExactly, CommitLeaves, SayLeaves}
+use Rattle.hal_base.specs.Stops.{IsTold, LeavesOnly, CommitLeaves, SayLeaves}
 use Rattle.hal_base.proofs.StopLemmas.{leaves-then, leaves-weaken}
 use Rattle.hal_base.proofs.StoreLemmas.{say_room_then}
 use Rattle.script_runs.specs.Language.{Step, IsOf, AreOnLines, state_after, least_after}
@@ -13,7 +13,7 @@ use Rattle.script_runs.specs.Stops.{Keeping, IsStop, StopsAmong}
 use Rattle.script_runs.specs.Taken.{Meaning, Began, IsKept, KeepsRoom, told_steps, TookOne, CutOne}
 use Rattle.script_runs.specs.declared.taker.EngineFault.{EngineFault}
 use Rattle.script_runs.specs.declared.taker.EngineFault.TheVariants.{DiskFault, SayFault, Memory}
-use Rattle.volume_keeper.specs.KeeperView.{KeeperView, HoldsOn, IsHeld}
+use Rattle.volume_keeper.specs.KeeperView.{KeeperView, LeavesCommitted, HoldsOn, IsHeld}
 use Rattle.volume_keeper.specs.Calls.{StagesEvent, LeavesKept, SameState, SameKept, KeepsState, SaysState}
 use Rattle.volume_keeper.specs.TakerOf.{telling}
 use Rattle.volume_keeper.specs.Laws.{told_is, told_holds}
@@ -25,7 +25,7 @@ use Rattle.volume_keeper.specs.declared.keeper.Staged.{Staged}
 -- a keeper on which nothing is staged, and which may be used
 pub record Begins {S : Type 0} (meaning : Meaning S) (a : KeeperView S) : Type 0 where
   pub held : IsHeld meaning.keeping a
-  pub exact : LeavesExactly a.store.moment a.store.left_at a.store.committed a.store.said
+  pub exact : LeavesCommitted a
   pub clean : a.store.clean ≡ true
 
 begun_last : {S : Type 0} (meaning : Meaning S) (a : KeeperView S) → Begins meaning a → (start : S) → a.state ≡ Some start → HoldsOn meaning.keeping a.store.committed start a.kept_free

@@ -2,15 +2,13 @@
 use Rattle.std.proofs.Common.{◌≡◌, ℕ, true, List, Option, refl, sym, ◌∙◌, subst, inl}
 use Rattle.std.proofs.lemmas.Bool.{and_parts}
 use Rattle.std.specs.Prelude.{IsTrue, Result, Ok, Err, IsErrOf}
-use Rattle.hal_base.specs.Fault.{Fails}
-use Rattle.hal_base.specs.Stops.{LeavesExactly}
 use Rattle.hal_base.proofs.StopLemmas.{leaves-stay}
 use Rattle.hal_base.proofs.StoreLemmas.{say_room_then}
 use Rattle.script_runs.specs.TakerView.{TakerView}
 use Rattle.script_runs.specs.Taken.{Meaning, TookOne, CutOne}
 use Rattle.script_runs.specs.declared.taker.EngineFault.{EngineFault}
 use Rattle.script_runs.specs.declared.taker.EngineFault.TheVariants.{DiskFault, SayFault, Memory}
-use Rattle.volume_keeper.specs.KeeperView.{KeeperView, IsHeld, is_clear}
+use Rattle.volume_keeper.specs.KeeperView.{KeeperView, DiskFails, LeavesCommitted, IsHeld, is_clear}
 use Rattle.volume_keeper.specs.Calls.{StagesEvent, StagesNone, LeavesKept, SaysState}
 use Rattle.volume_keeper.specs.Laws.{alive, dead}
 use Rattle.volume_keeper.specs.Steps.{Keeps}
@@ -21,7 +19,7 @@ use Rattle.volume_keeper.proofs.Events.{Begins, Done, none_done, cut_in_commit, 
 -- what a keeper's laws say of it
 pub record Lawful {S : Type 0} (meaning : Meaning S) (a : KeeperView S) : Type 0 where
   pub held : a.store.live ≡ true → IsHeld meaning.keeping a
-  pub exact : a.store.live ≡ true → LeavesExactly a.store.moment a.store.left_at a.store.committed a.store.said
+  pub exact : a.store.live ≡ true → LeavesCommitted a
 
 pub begins_at : {S : Type 0} (meaning : Meaning S) (a : KeeperView S) → Lawful meaning a → IsTrue (is_clear a) → Begins meaning a
 begins_at meaning a laws clear =
@@ -44,7 +42,7 @@ cut_early {S} meaning script number line a b fault view live is cut =
     subst P (sym (alive a live)) (subst Q (sym is) cut)
 
 pub cut_in_stage : {S T : Type 0} (meaning : Meaning S) (script : Option ℕ) (number : ℕ) (line : List ℕ) (a b : KeeperView S) (fault : EngineFault) → Lawful meaning a → IsTrue (is_clear a)
-    → LeavesKept a b → (IsErrOf {T = T} (Err fault) Memory → StagesNone a b) → (IsErrOf {T = T} (Err fault) SayFault → ⊥) → Fails (IsErrOf {T = T} (Err fault) DiskFault) a.store.disk_faults b.store.disk_faults b.store.live
+    → LeavesKept a b → (IsErrOf {T = T} (Err fault) Memory → StagesNone a b) → (IsErrOf {T = T} (Err fault) SayFault → ⊥) → DiskFails (IsErrOf {T = T} (Err fault) DiskFault) a b
     → CutOne meaning script number line (taker_of a) (taker_of b) fault
 cut_in_stage meaning script number line a b Memory laws clear leaves none says faults =
     let drops = none refl in

@@ -11,7 +11,8 @@ use Rattle.volume_keeper.specs.declared.keeper.Staged.{Staged}
 
 -- One event of a line was staged: asked with the blocks that were free, and what is to be said of it is its reply. The
 -- free blocks fell by no more than it needs; a line that isn't done has fewer units left.
-pub record StagesEvent {S : Type 0} (meaning : Meaning S) (script : Option ℕ) (number : ℕ) (line : List ℕ) (old new : KeeperView S) (staged : Staged) : Type 0 where
+pub record StagesEvent {S : Type 0} (meaning : Meaning S) (script : Option ℕ) (number : ℕ) (line : List ℕ)
+    (old new : KeeperView S) (staged : Staged) : Type 0 where
   pub step : Step S
   pub of : IsOf script number line step.event.asked
   pub free : step.event.asked.free ≡ old.free

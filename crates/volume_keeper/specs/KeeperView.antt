@@ -1,5 +1,7 @@
 -- What is seen of a keeper, and what its blocks hold.
 use Rattle.std.specs.Prelude.{◌≡◌, ℕ, ◌&&◌, Bool, true, List, Option, Some, IsSomeAnd, if◌then◌else◌}
+use Rattle.hal_base.specs.Fault.{Fails}
+use Rattle.hal_base.specs.Stops.{LeavesExactly}
 use Rattle.hal_base.specs.StoreCalls.{StoreView}
 use Rattle.script_runs.specs.Stops.{Keeping}
 
@@ -35,3 +37,11 @@ pub record IsHeld {S : Type 0} (keeping : Keeping S) (view : KeeperView S) : Typ
   pub now : (state : S) → view.state ≡ Some state → HoldsOn keeping view.store.list state view.free
   pub last : (state : S) → view.kept ≡ Some state → HoldsOn keeping view.store.committed state view.kept_free
   pub clean : view.store.clean ≡ true → (view.state ≡ view.kept) × (view.free ≡ view.kept_free)
+
+-- a stop now leaves what was committed, and what was said
+abbrev pub LeavesCommitted : {S : Type 0} → KeeperView S → Type 0
+LeavesCommitted view = LeavesExactly view.store.moment view.store.left_at view.store.committed view.store.said
+
+-- a call that may answer a fault of the disk, after which the keeper may be used no more
+abbrev pub DiskFails : {S : Type 0} → Type 0 → KeeperView S → KeeperView S → Type 0
+DiskFails failed old new = Fails failed old.store.disk_faults new.store.disk_faults new.store.live

@@ -1,9 +1,6 @@
 // What holds a state on blocks.
 ghost use Rattle.std.specs.Prelude.{◌≡◌, true, IfOk, IfSome, IsErrOf, IsTrue};
-ghost use Rattle.hal_base.specs.Fault.{Fails};
-ghost use Rattle.hal_base.specs.StoreCalls.{SameStore};
-ghost use Rattle.hal_base.specs.Stops.{LeavesExactly};
-ghost use Rattle.volume_keeper.specs.KeeperView.{KeeperView, IsHeld, is_clear, told_free};
+ghost use Rattle.volume_keeper.specs.KeeperView.{KeeperView, DiskFails, IsHeld, LeavesCommitted, is_clear, told_free};
 
 use hal_base::{Bytes, Failed, JournalFault, List, Live, PartState, StageFault};
 use hal_schema::Row;
@@ -45,14 +42,14 @@ pub trait Keeper: Live {
         ensures staged { IfOk result (StagesEvent (meaning (schema self.old)) script number text.now (seen self.old) (seen self.new)) }
         ensures memory { IsErrOf result StageFault.Memory → StagesNone (seen self.old) (seen self.new) }
         ensures leaves { LeavesKept (seen self.old) (seen self.new) × steady self.old self.new × (schema self.new ≡ schema self.old) }
-        ensures faults { Fails (IsErrOf result StageFault.Failed) (seen self.old).store.disk_faults (seen self.new).store.disk_faults (seen self.new).store.live };
+        ensures faults { DiskFails (IsErrOf result StageFault.Failed) (seen self.old) (seen self.new) };
 
     /// Makes the state the one that a stop leaves.
     fn commit(&mut self) -> Result<(), JournalFault>
         requires { IsTrue (seen self.old).store.live }
         ensures commits { CommitsState result (seen self.old) (seen self.new) }
         ensures leaves { steady self.old self.new × (schema self.new ≡ schema self.old) }
-        ensures faults { Fails (IsErrOf result JournalFault.DiskFault) (seen self.old).store.disk_faults (seen self.new).store.disk_faults (seen self.new).store.live };
+        ensures faults { DiskFails (IsErrOf result JournalFault.DiskFault) (seen self.old) (seen self.new) };
 
     /// Goes back to the state of the last commit.
     fn forget(&mut self)
@@ -72,7 +69,7 @@ pub trait Keeper: Live {
         ensures rows { IfOk result (λ rows. IfSome (seen self.old).state (λ state. rows ≡ (meaning (schema self.old)).rows state)) }
         ensures looks { OnlyLooks (seen self.old) (seen self.new) }
         ensures leaves { steady self.old self.new × (schema self.new ≡ schema self.old) }
-        ensures faults { Fails (IsErrOf result StageFault.Failed) (seen self.old).store.disk_faults (seen self.new).store.disk_faults (seen self.new).store.live };
+        ensures faults { DiskFails (IsErrOf result StageFault.Failed) (seen self.old) (seen self.new) };
 
     /// How each partition stands, in the order of the schema.
     fn states(&mut self) -> Result<List<PartState>, StageFault>
@@ -80,7 +77,7 @@ pub trait Keeper: Live {
         ensures states { IfOk result (λ states. IfSome (seen self.old).state (λ state. states ≡ (meaning (schema self.old)).parts state)) }
         ensures looks { OnlyLooks (seen self.old) (seen self.new) }
         ensures leaves { steady self.old self.new × (schema self.new ≡ schema self.old) }
-        ensures faults { Fails (IsErrOf result StageFault.Failed) (seen self.old).store.disk_faults (seen self.new).store.disk_faults (seen self.new).store.live };
+        ensures faults { DiskFails (IsErrOf result StageFault.Failed) (seen self.old) (seen self.new) };
 
     /// How many blocks are free.
     fn free_now(&self) -> u32
@@ -93,7 +90,7 @@ pub trait Keeper: Live {
 
     /// A stop of a live keeper leaves what was committed and what was said.
     ghost exact: { (keeper : Self) → (seen keeper).store.live ≡ true
-        → LeavesExactly (seen keeper).store.moment (seen keeper).store.left_at (seen keeper).store.committed (seen keeper).store.said };
+        → LeavesCommitted (seen keeper) };
 
     ghost steady_none: { (keeper : Self) → steady keeper keeper };
 

@@ -1,8 +1,7 @@
 // The taker of lines over a keeper.
 ghost use Rattle.std.specs.Prelude.{◌≡◌, IfErr, IfOk, IsErrOf, IsTrue, refl};
-ghost use Rattle.hal_base.specs.Fault.{Fails};
 ghost use Rattle.volume_keeper.specs.Calls.{LeavesKept, StagesEvent, StagesNone, SaysState};
-ghost use Rattle.volume_keeper.specs.KeeperView.{is_clear};
+ghost use Rattle.volume_keeper.specs.KeeperView.{DiskFails, is_clear};
 ghost use Rattle.volume_keeper.specs.Steps.{Keeps, engine_fault};
 
 use crate::{Keeper, Staged};
@@ -38,13 +37,13 @@ impl<K: Keeper> KeptLines<K> {
         text: &[u8],
     ) -> Result<Staged, EngineFault>
         requires { IsTrue (is_clear (K.seen self.old.keeper)) }
-        ensures staged { IfOk result (StagesEvent (K.meaning (K.schema self.old.keeper)) script number text.now (K.seen self.old.keeper) (K.seen self.new.keeper)) }
+        ensures staged { IfOk result
+            (StagesEvent (K.meaning (K.schema self.old.keeper)) script number text.now (K.seen self.old.keeper) (K.seen self.new.keeper)) }
         ensures memory { IsErrOf result EngineFault.Memory → StagesNone (K.seen self.old.keeper) (K.seen self.new.keeper) }
         ensures says_none { IsErrOf result EngineFault.SayFault → ⊥ }
         ensures leaves { LeavesKept (K.seen self.old.keeper) (K.seen self.new.keeper)
             × K.steady self.old.keeper self.new.keeper × (K.schema self.new.keeper ≡ K.schema self.old.keeper) }
-        ensures faults { Fails (IsErrOf result EngineFault.DiskFault) (K.seen self.old.keeper).store.disk_faults
-            (K.seen self.new.keeper).store.disk_faults (K.seen self.new.keeper).store.live }
+        ensures faults { DiskFails (IsErrOf result EngineFault.DiskFault) (K.seen self.old.keeper) (K.seen self.new.keeper) }
     {
         match self.keeper.stage(script, number, text) {
             Ok(staged) => Ok(staged),
@@ -123,7 +122,8 @@ impl<K: Keeper> LineTaker for KeptLines<K> {
 
     ghost alive = { λ lines. refl };
 
-    ghost leaves_told = { λ lines ready. leaves_told (K.meaning (K.schema lines.keeper)).keeping (K.seen lines.keeper) (K.held lines.keeper) (K.exact lines.keeper) ready };
+    ghost leaves_told = { λ lines ready. leaves_told (K.meaning (K.schema lines.keeper)).keeping (K.seen lines.keeper)
+        (K.held lines.keeper) (K.exact lines.keeper) ready };
 
     ghost steady_none = { λ lines. K.steady_none lines.keeper };
 
