@@ -1,9 +1,13 @@
 pub mod Climbs
 pub mod Comings
 pub mod Judgements
+pub mod Keepings
 pub mod KeyOrder
+pub mod LastTwins
 pub mod Lists
 pub mod Loadings
 pub mod Newest
 pub mod Placings
 pub mod Readings
+pub mod Takings
+pub mod Unloadings

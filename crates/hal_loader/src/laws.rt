@@ -1,0 +1,28 @@
+// Laws of loads. They have no code.
+ghost use Rattle.hal_loader.specs.Laws.{LoadingKeeps, TakingKeeps, UnloadedRowsAreSaid};
+
+use forest_laws::insertion_keeps;
+use hal_schema::schemas_are_kept;
+use partition_select::root_order_is_total;
+
+/// Taking a row that a taker may be asked to take keeps a forest.
+pub fn taking_keeps()
+    ensures { TakingKeeps }
+{
+    schemas_are_kept();
+    insertion_keeps();
+    root_order_is_total();
+}
+
+/// What a load puts into an empty taker is a forest.
+pub fn loading_keeps()
+    ensures { LoadingKeeps }
+{
+    schemas_are_kept();
+    taking_keeps();
+}
+
+/// The text of rows says them, a record a row.
+pub fn unloaded_rows_are_said()
+    ensures { UnloadedRowsAreSaid }
+{}
