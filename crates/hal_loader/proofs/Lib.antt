@@ -1,3 +1,4 @@
+pub mod AtEnd
 pub mod Climbs
 pub mod Comings
 pub mod Judgements
@@ -9,5 +10,7 @@ pub mod Loadings
 pub mod Newest
 pub mod Placings
 pub mod Readings
+pub mod Reloadings
 pub mod Takings
 pub mod Unloadings
+pub mod Unrefused

@@ -1,5 +1,5 @@
 -- What taking and loading keep, and what the text of unloaded rows says.
-use Rattle.std.specs.Prelude.{◌≡◌, ℕ, nat_lt, Bool, true, List, Some, None, flat_map, map, IsTrue}
+use Rattle.std.specs.Prelude.{◌≡◌, ℕ, ◌+◌, ◌≤◌, length, nat_lt, Bool, true, List, Some, None, flat_map, map, IsTrue}
 use Rattle.std.specs.List.{list_all, AllByRecursion}
 use Rattle.hal_base.specs.declared.place.Ilk.{Ilk}
 use Rattle.hal_schema.specs.declared.row.Row.{Row}
@@ -53,3 +53,14 @@ pub record SaysRows (schema : Schema) (rows : List Row) : Type 0 where
 
 abbrev pub UnloadedRowsAreSaid : Type 0
 UnloadedRowsAreSaid = (schema : Schema) (rows : List Row) → IsTrue (list_all (has_length schema.types) rows) → IsTrue (are_bytes rows) → SaysRows schema rows
+
+-- the text of rows loads again under their own names, where free blocks suffice for one row at a time: no row breaks a rule,
+-- and the list is the same
+pub record LoadsAgain (schema : Schema) (rows : List Row) (free : ℕ) : Type 0 where
+  pub taken : List Taken
+  pub loaded : AreLoaded schema (begin free) (records_of (unloaded schema.types rows)) taken
+  pub same : (stands_after_all schema (begin free) taken).rows ≡ rows
+
+abbrev pub UnloadedRowsLoadAgain : Type 0
+UnloadedRowsLoadAgain = (schema : Schema) (rows : List Row) (free : ℕ) → IsTrue (is_forest schema rows) → IsTrue (are_bytes rows)
+    → 3 + length schema.indexes ≤ free → LoadsAgain schema rows free

@@ -1,7 +1,7 @@
 // Laws of loads. They have no code.
-ghost use Rattle.hal_loader.specs.Laws.{LoadingKeeps, TakingKeeps, UnloadedRowsAreSaid};
+ghost use Rattle.hal_loader.specs.Laws.{LoadingKeeps, TakingKeeps, UnloadedRowsAreSaid, UnloadedRowsLoadAgain};
 
-use forest_laws::insertion_keeps;
+use forest_laws::{insertion_keeps, paths_are_ancestries};
 use hal_schema::schemas_are_kept;
 use partition_select::root_order_is_total;
 
@@ -26,3 +26,13 @@ pub fn loading_keeps()
 pub fn unloaded_rows_are_said()
     ensures { UnloadedRowsAreSaid }
 {}
+
+/// The text of a forest's rows loads again to the same list.
+pub fn unloaded_rows_load_again()
+    ensures { UnloadedRowsLoadAgain }
+{
+    schemas_are_kept();
+    root_order_is_total();
+    paths_are_ancestries();
+    unloaded_rows_are_said();
+}

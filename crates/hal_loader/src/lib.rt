@@ -28,7 +28,7 @@ mod taker;
 mod twins;
 mod unload;
 
-pub use laws::{loading_keeps, taking_keeps, unloaded_rows_are_said};
+pub use laws::{loading_keeps, taking_keeps, unloaded_rows_are_said, unloaded_rows_load_again};
 pub use records::{LoadFault, load};
 pub use taker::{RowTaker, TakeFault};
 pub use unload::unload_row;
