@@ -1,6 +1,6 @@
 -- What a new row makes of the list.
-use Rattle.std.proofs.Common.{◌≡◌, ℕ, ◌<◌, ◌==◌, ◌&&◌, ◌||◌, if◌then◌else◌, not, Bool, true, false, List, [], ◌∷◌, Option, None, Some, refl, sym, ap, subst, ◌∙◌, arith}
-use Rattle.std.specs.Prelude.{find, slice_get, option_and_then}
+use Rattle.std.proofs.Common.{◌≡◌, ℕ, ◌==◌, ◌&&◌, ◌||◌, if◌then◌else◌, not, Bool, true, false, List, [], ◌∷◌, Option, None, Some, refl, sym, ap, subst, ◌∙◌, arith}
+use Rattle.std.specs.Prelude.{find, slice_get}
 use Rattle.std.specs.List.{list_all, list_any}
 use Rattle.std.specs.Option.{option_map, option_map_or}
 use Rattle.std.specs.Str.{bytes_eq}
@@ -13,17 +13,15 @@ use Rattle.hal_schema.specs.Insertion.{inserted as inserted_into}
 use Rattle.hal_schema.specs.Row.{same_name}
 use Rattle.hal_schema.specs.SegType.{parent_code}
 use Rattle.segment_blocks.specs.declared.tile.Cell.{Cell}
-use Rattle.free_space.specs.SideCalls.{IsTold}
 use Rattle.record_walk.specs.Tree.{Occurrence, Chains, child_codes}
 use Rattle.record_walk.specs.Listing.{Placed, placed, list_in, rows_of}
-use Rattle.record_walk.specs.Changes.{leads_to}
 use Rattle.record_walk.specs.Firsts.{NextStaysBehind, FirstChildrenAreInserted, LaterChildrenAreInserted}
-use Rattle.record_walk.specs.InRecords.{ListsItsCells, SidesListTheirCells, is_cell_of}
+use Rattle.record_walk.specs.InRecords.{SidesListTheirCells, is_cell_of}
 use Rattle.record_walk.specs.Orders.{child_place, ChildPlaces}
-use Rattle.record_walk.specs.Pointers.{Pointer, Behind, Below, with_segment}
+use Rattle.record_walk.specs.Pointers.{Below}
 use Rattle.record_walk.specs.Side.{seen}
 use Rattle.record_walk.specs.SideChanges.{kinds_of}
-use Rattle.record_walk.specs.Spans.{ComesIn, ComesBehind, NewSegmentsAreListed, NewTwinsStandBehindSpans}
+use Rattle.record_walk.specs.Spans.{ComesIn, NewSegmentsAreListed, NewTwinsStandBehindSpans}
 use Rattle.record_tree.specs.declared.new_row.NewRow.{NewRow}
 use Rattle.record_tree.specs.declared.place.Place.{Place}
 use Rattle.record_tree.specs.declared.records.Records.{Records}

@@ -18,7 +18,7 @@ use Rattle.free_space.specs.SideCalls.{StandsForSide, IsTold, Holds, Turns}
 use Rattle.free_space.specs.SideLaws.{NoneAtZero}
 use Rattle.keyed_sets.specs.declared.set.KeyedSet.{KeyedSet}
 use Rattle.record_walk.specs.Tree.{Occurrence, Chains}
-use Rattle.record_walk.specs.Pointers.{Pointer, Behind, Below, with_segment}
+use Rattle.record_walk.specs.Pointers.{Pointer, Behind, Below}
 use Rattle.record_walk.specs.Changes.{stands_in, leads_to, set_in_cell, new_cell}
 use Rattle.record_walk.specs.Orders.{child_place, ChildPlaces}
 use Rattle.record_walk.specs.Records.{code_behind}
@@ -30,8 +30,8 @@ use Rattle.record_tree.specs.declared.records.Records.{Records}
 use Rattle.record_tree.specs.declared.room.Room.{Room}
 use Rattle.record_tree.specs.declared.room.Room.TheVariants.{Lowest, Past}
 use Rattle.record_tree.specs.Sides.{part_number, root_set, root_shape, root_rows, letters_of, shapes_of}
-use Rattle.record_tree.specs.Standing.{IsOfSide, StandsForRecords, StaysRecords, Walks, HoldsRow, cells_seen, rows_seen}
-use Rattle.record_tree.specs.Placing.{HasPointer, pointer_at, led_to}
+use Rattle.record_tree.specs.Standing.{IsOfSide, StandsForRecords, Walks, HoldsRow, cells_seen, rows_seen}
+use Rattle.record_tree.specs.Placing.{HasPointer, pointer_at}
 use Rattle.record_tree.specs.Changing.{CellComes, unlinked, at_home}
 use Rattle.record_tree.specs.Storing.{StoresCell, IsPast, ReadsPointer, HasChildPlace, Joins, pointer_home, joined_trees, segment_for, row_cell, named_cell}
 use Rattle.record_tree.proofs.Seen.{some_is}

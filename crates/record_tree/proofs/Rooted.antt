@@ -1,17 +1,13 @@
 -- A new root of a side: its cell came, and a row of the root set leads to it.
-use Rattle.std.proofs.Common.{◌≡◌, ◌≢◌, ℕ, ◌<◌, ◌≤◌, ◌==◌, ◌^◌, nat_lt, Bool, true, false, List, map, length, insert, Option, None, Some, refl, sym, ap, subst, ◌∙◌, arith}
-use Rattle.std.specs.Prelude.{find, slice_get, IfSome, IsSome, IsSomeAnd}
+use Rattle.std.proofs.Common.{◌≡◌, ◌≢◌, ℕ, ◌<◌, ◌≤◌, ◌==◌, ◌^◌, true, false, List, map, length, insert, Option, None, Some, refl, sym, ap, subst, ◌∙◌, arith}
+use Rattle.std.specs.Prelude.{find, slice_get, IfSome, IsSomeAnd}
 use Rattle.std.specs.Int.{w32, from_be_bytes, to_be_bytes}
-use Rattle.std.specs.List.{list_all}
 use Rattle.std.specs.Option.{option_map, option_map_or}
-use Rattle.std.proofs.lemmas.Bool.{eq-eqb, lt-ltb, false≢true}
+use Rattle.std.proofs.lemmas.Bool.{eq-eqb, lt-ltb}
 use Rattle.std.proofs.lemmas.Nat.{from_be_bytes-to_be_bytes_4}
 use Rattle.hal_base.specs.ShelfCalls.{ShelfView}
 use Rattle.hal_schema.specs.declared.schema.Schema.{Schema}
 use Rattle.hal_schema.specs.Insertion.{inserted as inserted_into}
-use Rattle.hal_schema.specs.Roots.{partition_of}
-use Rattle.segment_blocks.specs.declared.tile.Cell.{Cell}
-use Rattle.free_space.specs.Map.{Adds}
 use Rattle.free_space.specs.declared.side.SideCells.{SideCells}
 use Rattle.free_space.specs.SideCalls.{StandsForSide, IsTold, cells_of}
 use Rattle.free_space.specs.SideLaws.{NoneAtZero, StaysBeside}
@@ -22,14 +18,14 @@ use Rattle.keyed_sets.specs.Layout.{Row}
 use Rattle.keyed_sets.specs.Map.{RowsRise, lookup, with_row, rows_of}
 use Rattle.record_walk.specs.Tree.{Occurrence, Chains, firsts_of}
 use Rattle.record_walk.specs.Listing.{Placed, placed, list_in, rows_of as rows_in}
-use Rattle.record_walk.specs.ByKey.{RootsGoByRows, home_where, is_root_where}
-use Rattle.record_walk.specs.Changes.{stands_in, new_cell}
+use Rattle.record_walk.specs.ByKey.{RootsGoByRows}
+use Rattle.record_walk.specs.Changes.{new_cell}
 use Rattle.record_walk.specs.Firsts.{FirstRootsAreInserted}
 use Rattle.record_walk.specs.Orders.{RootsGoByKey}
-use Rattle.record_walk.specs.Pointers.{Pointer, Behind, Root}
+use Rattle.record_walk.specs.Pointers.{Behind, Root}
 use Rattle.record_walk.specs.Roots.{RowsComeAndGo, with_row as with_chain_row}
-use Rattle.record_walk.specs.Side.{RootRow, seen, key_of, belongs, row_key_of, are_keyed, IsWalked, IsSideOf}
-use Rattle.record_walk.specs.SideChanges.{ChangedSides, FitsAsRoot, SetsPointer, kinds_of, leads_in, set_home, segment_in}
+use Rattle.record_walk.specs.Side.{RootRow, seen, key_of, belongs, are_keyed, IsWalked, IsSideOf}
+use Rattle.record_walk.specs.SideChanges.{ChangedSides, FitsAsRoot, SetsPointer, kinds_of, leads_in, set_home}
 use Rattle.record_walk.specs.Spans.{NewSegmentsAreListed, ComesIn, IsIn}
 use Rattle.record_tree.specs.declared.new_row.NewRow.{NewRow}
 use Rattle.record_tree.specs.declared.records.Records.{Records}
@@ -37,7 +33,7 @@ use Rattle.record_tree.specs.Sides.{root_row, root_rows}
 use Rattle.record_tree.specs.Standing.{StandsForRecords, Walks, cells_seen, rows_seen}
 use Rattle.record_tree.specs.Finding.{is_key}
 use Rattle.record_tree.specs.Placing.{IsNewRoot}
-use Rattle.record_tree.specs.Changing.{CellComes, RowComes, RowIsIn, ListBecomes, at_home, unlinked}
+use Rattle.record_tree.specs.Changing.{RowComes, at_home, unlinked}
 use Rattle.record_tree.specs.Storing.{StoresCell, ComesAsRoot, segment_for, row_cell, named_cell}
 use Rattle.record_tree.proofs.Seen.{some_is}
 use Rattle.record_tree.proofs.Leading.{homes, records_of}

@@ -1,22 +1,20 @@
 -- A stored root to which a row of the root set leads.
-use Rattle.std.proofs.Common.{◌≡◌, ◌≢◌, ℕ, zero, suc, ◌<◌, ◌≤◌, ◌==◌, nat_lt, ◌&&◌, Bool, true, false, cond, List, [], ◌∷◌, ◌++◌, map, length, insert, take, drop, Option, None, Some, refl, sym, ap, subst, ◌∙◌, arith, lit<, if◌then◌else◌, ⊎_elim}
-use Rattle.std.specs.Prelude.{find, slice_get, slice_index, Contains, IsTrue}
+use Rattle.std.proofs.Common.{◌≡◌, ℕ, zero, suc, ◌<◌, ◌≤◌, ◌==◌, nat_lt, Bool, true, false, cond, List, [], ◌∷◌, ◌++◌, map, length, insert, Option, None, Some, refl, sym, ap, subst, ◌∙◌, arith, if◌then◌else◌, ⊎_elim}
+use Rattle.std.specs.Prelude.{slice_get, slice_index, Contains}
 use Rattle.std.specs.List.{list_all}
-use Rattle.std.specs.Option.{option_map, option_map_or}
+use Rattle.std.specs.Option.{option_map_or}
 use Rattle.std.specs.Ordering.{is_lt}
 use Rattle.std.specs.Str.{bytes_eq}
-use Rattle.std.specs.declared.cmp.Ordering.{Ordering}
-use Rattle.std.proofs.lemmas.Bool.{and_parts, and_from, eqb-true, eq-eqb, false≢true}
+use Rattle.std.proofs.lemmas.Bool.{and_parts, and_from, eqb-true, false≢true}
 use Rattle.std.proofs.lemmas.Slice.Eq.{bytes_eq-Decides}
 use Rattle.hal_schema.specs.declared.schema.Schema.{Schema}
 use Rattle.hal_schema.specs.Forest.{all_pairs}
-use Rattle.hal_schema.specs.Keys.{key_cmp}
 use Rattle.hal_schema.specs.Roots.{partition_of, anchor_place, root_cmp}
 use Rattle.std.specs.Int.{w32, to_be_bytes}
 use Rattle.keyed_sets.specs.Layout.{Row, is_below}
-use Rattle.keyed_sets.specs.Map.{KeysRise, RowsRise, lookup, with_row}
+use Rattle.keyed_sets.specs.Map.{RowsRise, lookup, with_row}
 use Rattle.keyed_sets.proofs.Keys.{not_below}
-use Rattle.record_walk.specs.Tree.{Occurrence, Twins, Chains, no_chain, chain, firsts_of}
+use Rattle.record_walk.specs.Tree.{Occurrence, Chains, no_chain, chain}
 use Rattle.record_walk.specs.Pointers.{Root, with_segment}
 use Rattle.record_walk.specs.Orders.{RootsGoByKey}
 use Rattle.record_walk.specs.Roots.{with_row as with_chain_row}

@@ -22,7 +22,6 @@ use Rattle.free_space.specs.SideCalls.{StandsForSide, StaysOpenOn, IsTold, Turns
 use Rattle.free_space.specs.Store.{IsTyped}
 use Rattle.keyed_sets.specs.declared.set.KeyedSet.{KeyedSet}
 use Rattle.keyed_sets.specs.Calls.{IsOpened}
-use Rattle.record_walk.specs.Changes.{new_cell}
 use Rattle.record_walk.specs.Orders.{ChildPlaces}
 use Rattle.record_walk.specs.SideChanges.{kinds_of}
 use Rattle.record_tree.specs.declared.new_row.NewRow.{NewRow}

@@ -1,4 +1,4 @@
-use Rattle.std.proofs.Common.{◌≡◌, ◌+◌, ℕ, length, refl, ap, arith}
+use Rattle.std.proofs.Common.{◌+◌, ℕ, length, refl, ap, arith}
 use Rattle.std.proofs.lemmas.Result.{err_from_is_err_and}
 use Rattle.hal_base.specs.declared.outcome.PageFault.TheVariants as page
 use Rattle.hal_schema.specs.declared.schema.Schema.{Schema}

@@ -1,4 +1,4 @@
-use Rattle.std.proofs.Common.{ℕ, length, sym, subst}
+use Rattle.std.proofs.Common.{length, sym, subst}
 use Rattle.hal_base.specs.declared.outcome.PageFault.TheVariants.{Failed}
 use Rattle.std.specs.Prelude.{IsErrOf}
 use Rattle.free_space.specs.SideCalls.{KeepsCells, PlacesCell, AppendsCell, set_of, added_for}
