@@ -35,7 +35,7 @@ use Rattle.record_tree.proofs.Leading.{led, homes}
 
 -- ---- rows that are found
 
-found_row : (test : List ℕ → Bool) (rows : List Row) → find (λ (r : RootRow). test r.key) (map root_row rows) ≡ option_map root_row (find (λ (row : Row). test (row.0)) rows)
+pub found_row : (test : List ℕ → Bool) (rows : List Row) → find (λ (r : RootRow). test r.key) (map root_row rows) ≡ option_map root_row (find (λ (row : Row). test (row.0)) rows)
 found_row test [] = refl
 found_row test (row ∷ rows) = by (test (row.0)) (found_row test rows)
   where
@@ -81,21 +81,21 @@ if_some (Some x) P holds = holds x refl
 abbrev pub Alike : ShelfView → Type 0
 Alike shelf = (set other : SetId) → shelf.pages set ≡ None → shelf.pages other ≡ None
 
-told_pages : (first roots : SetId) (shelf : ShelfView) → Alike shelf → IsSome (shelf.pages first) → (pages : List (List ℕ)) × (shelf.pages roots ≡ Some pages)
+pub told_pages : (first roots : SetId) (shelf : ShelfView) → Alike shelf → IsSome (shelf.pages first) → (pages : List (List ℕ)) × (shelf.pages roots ≡ Some pages)
 told_pages first roots shelf alike told = by (shelf.pages roots) refl
   where
     by : (o : Option (List (List ℕ))) → shelf.pages roots ≡ o → (pages : List (List ℕ)) × (shelf.pages roots ≡ Some pages)
     by None is = absurd (false≢true (subst (λ (o : Option (List (List ℕ))). IsSome o) (alike roots first is) told))
     by (Some pages) is = (pages, is)
 
-in_row : (cells : ℕ → Option Cell) (firsts : List ℕ) (trees : Chains) (k : ℕ) → k < length firsts → IsIn (Root k) cells firsts trees
+pub in_row : (cells : ℕ → Option Cell) (firsts : List ℕ) (trees : Chains) (k : ℕ) → k < length firsts → IsIn (Root k) cells firsts trees
 in_row cells firsts trees k lt = record {
   met = λ home e. absurd (let wrong : None ≡ Some home = e in cc);
   child = λ above place cell e. absurd (let wrong : Root k ≡ Below above place = e in cc);
   row = λ place e. let same : k ≡ place = cc in subst (λ (n : ℕ). n < length firsts) same lt;
 }
 
-length_homes : (rows : List RootRow) → length (homes rows) ≡ length rows
+pub length_homes : (rows : List RootRow) → length (homes rows) ≡ length rows
 length_homes [] = refl
 length_homes (row ∷ rows) = ap suc (length_homes rows)
 
