@@ -38,13 +38,13 @@ prefix_all p (x ∷ xs) h =
     let a = and_parts (p x) (list_all p xs) h in
     ap (λ (b : Bool). cond b (1 + prefix_len p xs) 0) a.0 ∙ (let e = prefix_all p xs a.1 in let n : 1 + prefix_len p xs ≡ suc (length xs) = omega (arith, e) in n)
 
-insert_end : (xs : List Row) (n : ℕ) (x : Row) → n ≡ length xs → insert xs n x ≡ xs ++ x ∷ []
+pub insert_end : (xs : List Row) (n : ℕ) (x : Row) → n ≡ length xs → insert xs n x ≡ xs ++ x ∷ []
 insert_end xs n x e =
     ap (λ (k : ℕ). insert xs k x) e ∙ ap (λ (l : List Row). l ++ x ∷ drop (length xs) xs) (take-length xs)
     ∙ ap (λ (l : List Row). xs ++ x ∷ l) (drop_all (length xs) xs (let n : length xs ≤ length xs = omega arith in n))
 
 behind_all : (schema : Schema) (done f b : List Row) (x row : Row) → done ≡ f ++ x ∷ b → loads_behind schema row x ≡ true → list_all (is_above (row_level schema.types) row) b ≡ true
-    → with_loaded schema done row ≡ done ++ row ∷ []
+    → load_place schema done row ≡ length done
 behind_all schema done f b x row split passes deep =
     let d = is_above (row_level schema.types) row in
     let t : ℕ = through_last (loads_behind schema row) done in
@@ -55,7 +55,7 @@ behind_all schema done f b x row split passes deep =
     let long = prefix_all d (drop t done) all in
     let left : length (drop t done) ≡ length done - t = length-drop t done in
     let most : t ≤ length done = omega arith in
-    insert_end done (load_place schema done row) row (let n : t + prefix_len d (drop t done) ≡ length done = omega (arith, long, left, most) in n)
+    omega (arith, long, left, most)
 
 -- ---- which row that is
 
@@ -147,8 +147,8 @@ parent_behind schema done front z row is split same = by is
         let parent : is_parent z row ≡ true = ap (λ (r : Row). is_parent r row) is ∙ (and_parts (is_parent c.parent row) (is_parent_code schema.types c.parent.code row.code) c.child).0 in
         or_left (is_parent z row || is_lower_child row z) (are_twins z row && (not (goes_by_key schema row) || is_lt (twin_cmp schema z row))) (or_left (is_parent z row) (is_lower_child row z) parent)
 
-pub loaded_last : (schema : Schema) (done more : List Row) (row : Row) → IsKept schema → Parts schema (done ++ row ∷ more) → IsTop schema done row ⊎ IsChild schema done row → with_loaded schema done row ≡ done ++ row ∷ []
-loaded_last schema done more row k parts is = by (ends done)
+pub placed_last : (schema : Schema) (done more : List Row) (row : Row) → IsKept schema → Parts schema (done ++ row ∷ more) → IsTop schema done row ⊎ IsChild schema done row → load_place schema done row ≡ length done
+placed_last schema done more row k parts is = by (ends done)
   where
     lv : Row → ℕ
     lv = row_level schema.types
@@ -166,7 +166,7 @@ loaded_last schema done more row k parts is = by (ends done)
     kept_in y (inl h) = h
     kept_in y (inr h) = absurd h.0
 
-    next_to : (y : Row) (low : List Row) → rest ≡ y ∷ low → is_path schema.types None (left_by schema done) ≡ true → with_loaded schema done row ≡ done ++ row ∷ []
+    next_to : (y : Row) (low : List Row) → rest ≡ y ∷ low → is_path schema.types None (left_by schema done) ≡ true → load_place schema done row ≡ length done
     next_to y low e path =
         let b = beside schema done row y low k is (ap (λ (l : List Row). is_path schema.types None l) (sym (whole ∙ ap (λ (l : List Row). above_in_path schema done row ++ l) e)) ∙ path) in
         let h = kept_in y (carried (row_level schema.types) y [] done (among_is y low e)) in
@@ -174,15 +174,18 @@ loaded_last schema done more row k parts is = by (ends done)
         let among : Among y done = subst (λ (l : List Row). Among y l) (sym h.split) (among_middle y h.front h.behind) in
         behind_all schema done h.front h.behind y row h.split (goes_behind schema done more row y k parts among b.parent) deep
 
-    split_rest : (front : List Row) (z : Row) → done ≡ front ++ z ∷ [] → (low : List Row) → rest ≡ low → is_path schema.types None (left_by schema done) ≡ true → with_loaded schema done row ≡ done ++ row ∷ []
+    split_rest : (front : List Row) (z : Row) → done ≡ front ++ z ∷ [] → (low : List Row) → rest ≡ low → is_path schema.types None (left_by schema done) ≡ true → load_place schema done row ≡ length done
     split_rest front z split [] e path =
         behind_all schema done front [] z row split (parent_behind schema done front z row is split (whole ∙ ap (λ (l : List Row). above_in_path schema done row ++ l) e ∙ append-nil (above_in_path schema done row))) refl
     split_rest front z split (y ∷ low) e path = next_to y low e path
 
-    by : Ends done → with_loaded schema done row ≡ done ++ row ∷ []
-    by (Empty e) = subst (λ (l : List Row). with_loaded schema l row ≡ l ++ row ∷ []) (sym e) refl
+    by : Ends done → load_place schema done row ≡ length done
+    by (Empty e) = subst (λ (l : List Row). load_place schema l row ≡ length l) (sym e) refl
     by (Last front z split) =
         let path : is_path schema.types None (left_by schema done) ≡ true =
         ap (λ (l : List Row). is_path schema.types None l) (ap (left_by schema) split ∙ after_append (row_level schema.types) [] front (z ∷ []))
         ∙ path_among schema front (row ∷ more) z (subst (λ (l : List Row). Parts schema l) (ap (λ (l : List Row). l ++ row ∷ more) split ∙ append_assoc front (z ∷ []) (row ∷ more)) parts) in
         split_rest front z split rest refl path
+
+pub loaded_last : (schema : Schema) (done more : List Row) (row : Row) → IsKept schema → Parts schema (done ++ row ∷ more) → IsTop schema done row ⊎ IsChild schema done row → with_loaded schema done row ≡ done ++ row ∷ []
+loaded_last schema done more row k parts is = insert_end done (load_place schema done row) row (placed_last schema done more row k parts is)

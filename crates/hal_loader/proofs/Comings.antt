@@ -200,7 +200,7 @@ parent_stays rows k new None h = refl
 parent_stays rows k new (Some m) h =
     some_stays (λ (r : Row). same_name r.name m) (take k rows) new (drop k rows) (ap (λ (l : List Row). not (is_none (find (λ (r : Row). same_name r.name m) l))) (take-append-drop k rows) ∙ h)
 
-first_is_there : (schema : Schema) (rows above : List Row) (o : Option Ilk) → o ≡ first_name above → AreOnPath schema rows above → option_map_or (λ name. not (is_new_name rows name)) o true ≡ true
+pub first_is_there : (schema : Schema) (rows above : List Row) (o : Option Ilk) → o ≡ first_name above → AreOnPath schema rows above → option_map_or (λ name. not (is_new_name rows name)) o true ≡ true
 first_is_there schema rows [] o e on = ap (λ (o : Option Ilk). option_map_or (λ name. not (is_new_name rows name)) o true) e
 first_is_there schema rows (p ∷ rest) o e on =
     ap (λ (o : Option Ilk). option_map_or (λ name. not (is_new_name rows name)) o true) e ∙ ap (λ (r : Option Row). not (is_none r)) on.0.newest.found

@@ -1,6 +1,7 @@
 pub mod AtEnd
 pub mod Climbs
 pub mod Comings
+pub mod ComingsBack
 pub mod Judgements
 pub mod Keepings
 pub mod KeyOrder
@@ -11,6 +12,7 @@ pub mod Newest
 pub mod Placings
 pub mod Readings
 pub mod Reloadings
+pub mod Renamings
 pub mod Takings
 pub mod Unloadings
 pub mod Unrefused

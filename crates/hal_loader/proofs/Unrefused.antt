@@ -90,7 +90,7 @@ root_not_lt schema total a b plain h = by (is_lt (key_cmp b a)) refl
 
 -- ---- rule by rule
 
-abbrev Rows : Schema → List Row → Row → List Row → Type 0
+abbrev pub Rows : Schema → List Row → Row → List Row → Type 0
 Rows schema done row more = Parts schema (done ++ row ∷ more)
 
 no_lost_parent : (schema : Schema) (done : List Row) (row : Row) → IsKept schema → IsTop schema done row ⊎ IsChild schema done row → (is_some (parent_code schema.types row.code) && is_none row.parent) ≡ false
@@ -285,13 +285,13 @@ at_most_one : (b : Bool) → cond b 1 0 ≤ 1
 at_most_one true = omega arith
 at_most_one false = omega arith
 
-abbrev owned : Schema → List Row → ℕ → Standing
+abbrev pub owned : Schema → List Row → ℕ → Standing
 owned schema done free = record { rows = done; path = reverse (left_by schema done); free = free }
 
-no_rule : (schema : Schema) → IsKept schema → IsTotalOrder (root_cmp schema) → (done more : List Row) (row : Row) (free : ℕ) → Rows schema done row more
+pub room_alone : (schema : Schema) → IsKept schema → IsTotalOrder (root_cmp schema) → (done more : List Row) (row : Row) (free : ℕ) → Rows schema done row more
     → AllByRecursion (λ (p : List Row × Row). reverse (map (λ (r : Row). r.code) p.0) ≡ ancestry (parent_code schema.types) p.1.code) (paths_of schema.types (done ++ row ∷ more))
-    → 3 + length schema.indexes ≤ free → first_that_holds (row_refusals schema done free (coming row.parent row.code row.content)) ≡ None
-no_rule schema k total done more row free parts ancestries room =
+    → first_that_holds (row_refusals schema done free (coming row.parent row.code row.content)) ≡ first_that_holds ((nat_lt free (load_need schema done (coming row.parent row.code row.content)), codes "+R") ∷ [])
+room_alone schema k total done more row free parts ancestries =
     let is = above_of schema done more row k parts in
     let new : Row = coming row.parent row.code row.content in
     let path : List Row = path_with (row_level schema.types) (left_by schema done) row in
@@ -304,16 +304,23 @@ no_rule schema k total done more row free parts ancestries room =
     (free_entry schema done more row path refl (new_path_is schema done row is) codes_are) schema.indexes parts.indexed kept in
     let enter : list_all (enters_freely schema.types done (coming row.parent row.code row.content)) schema.indexes ≡ true = sym (entries_named schema.types done new row.name schema.indexes) ∙ entries in
     let chosen = all_middle (is_selected schema) done more row parts.selected in
-    let one = at_most_one (option_map_or (λ root. leaves_blocks schema (row_key schema.types root)) (slice_get (new_path schema.types done new) 0) false) in
-    let need : load_need schema done (coming row.parent row.code row.content) ≤ free = omega (arith, one, room) in
     let lost = no_lost_parent schema done row k is in
     let later = no_later schema done more row parts in
     let lower = no_lower schema total done more row parts in
     let twice = ap not (no_twin_key schema done more row parts) in
     let high = ap not chosen in
     let taken = ap not enter in
-    let short = not_below free (load_need schema done new) need in
-    λ i. first_that_holds ((lost i, codes "LD") ∷ (later i, codes "LE") ∷ (lower i, codes "LC") ∷ (twice i, codes "LB") ∷ (high i, codes "FM") ∷ (taken i, codes "NI") ∷ (short i, codes "+R") ∷ [])
+    λ i. first_that_holds ((lost i, codes "LD") ∷ (later i, codes "LE") ∷ (lower i, codes "LC") ∷ (twice i, codes "LB") ∷ (high i, codes "FM") ∷ (taken i, codes "NI") ∷ (nat_lt free (load_need schema done new), codes "+R") ∷ [])
+
+no_rule : (schema : Schema) → IsKept schema → IsTotalOrder (root_cmp schema) → (done more : List Row) (row : Row) (free : ℕ) → Rows schema done row more
+    → AllByRecursion (λ (p : List Row × Row). reverse (map (λ (r : Row). r.code) p.0) ≡ ancestry (parent_code schema.types) p.1.code) (paths_of schema.types (done ++ row ∷ more))
+    → 3 + length schema.indexes ≤ free → first_that_holds (row_refusals schema done free (coming row.parent row.code row.content)) ≡ None
+no_rule schema k total done more row free parts ancestries room =
+    let new : Row = coming row.parent row.code row.content in
+    let one = at_most_one (option_map_or (λ root. leaves_blocks schema (row_key schema.types root)) (slice_get (new_path schema.types done new) 0) false) in
+    let need : load_need schema done (coming row.parent row.code row.content) ≤ free = omega (arith, one, room) in
+    room_alone schema k total done more row free parts ancestries
+    ∙ ap (λ (b : Bool). first_that_holds ((b, codes "+R") ∷ [])) (not_below free (load_need schema done new) need)
   where
     not_below : (a b : ℕ) → b ≤ a → nat_lt a b ≡ false
     not_below a b le = by (nat_lt a b) refl
@@ -327,11 +334,11 @@ no_rule schema k total done more row free parts ancestries room =
 new_name : (done more : List Row) (row : Row) → all_pairs names_apart (done ++ row ∷ more) ≡ true → is_new_name done row.name ≡ true
 new_name done more row apart = ap (λ (o : Option Row). is_none o) (find_none (λ (r : Row). same_name r.name row.name) done (pairs_at names_apart done more row apart).before)
 
-record Next (schema : Schema) (free : ℕ) (done : List Row) (row : Row) : Type 0 where
-  loads : Loads schema (owned schema done free) (fields_said schema.types row) (record { row = row; free = free })
-  after : stands_after schema (owned schema done free) (record { row = row; free = free }) ≡ owned schema (done ++ row ∷ []) free
+pub record Next (schema : Schema) (free : ℕ) (done : List Row) (row : Row) : Type 0 where
+  pub loads : Loads schema (owned schema done free) (fields_said schema.types row) (record { row = row; free = free })
+  pub after : stands_after schema (owned schema done free) (record { row = row; free = free }) ≡ owned schema (done ++ row ∷ []) free
 
-next : (schema : Schema) → IsKept schema → IsTotalOrder (root_cmp schema) → (done more : List Row) (row : Row) (free : ℕ) → Rows schema done row more
+pub next : (schema : Schema) → IsKept schema → IsTotalOrder (root_cmp schema) → (done more : List Row) (row : Row) (free : ℕ) → Rows schema done row more
     → AllByRecursion (λ (p : List Row × Row). reverse (map (λ (r : Row). r.code) p.0) ≡ ancestry (parent_code schema.types) p.1.code) (paths_of schema.types (done ++ row ∷ more))
     → 3 + length schema.indexes ≤ free → SaysRow schema.types row → Next schema free done row
 next schema k total done more row free parts ancestries room says =

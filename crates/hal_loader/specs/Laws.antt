@@ -1,6 +1,7 @@
 -- What taking and loading keep, and what the text of unloaded rows says.
-use Rattle.std.specs.Prelude.{◌≡◌, ℕ, ◌+◌, ◌≤◌, length, nat_lt, Bool, true, List, Some, None, flat_map, map, IsTrue}
+use Rattle.std.specs.Prelude.{◌≡◌, ℕ, ◌+◌, ◌≤◌, length, nat_lt, Bool, true, List, [], Some, None, Result, Ok, Err, codes, flat_map, map, IsTrue, ⊤}
 use Rattle.std.specs.List.{list_all, AllByRecursion}
+use Rattle.std.specs.Option.{option_map}
 use Rattle.hal_base.specs.declared.place.Ilk.{Ilk}
 use Rattle.hal_schema.specs.declared.row.Row.{Row}
 use Rattle.hal_schema.specs.declared.schema.Schema.{Schema}
@@ -8,11 +9,14 @@ use Rattle.hal_schema.specs.declared.schema.SegType.{SegType}
 use Rattle.hal_schema.specs.Forest.{has_length, is_forest}
 use Rattle.hal_schema.specs.Insertion.{enters_freely}
 use Rattle.hal_schema.specs.Row.{is_new_name}
-use Rattle.hal_loader.specs.Loading.{Taken, AreLoaded, begin, stands_after_all}
+use Rattle.hal_loader.specs.Loading.{Taken, AreLoaded, LoadsTold, begin, stands_after_all}
 use Rattle.hal_loader.specs.Placing.{with_name, with_loaded}
 use Rattle.hal_loader.specs.Refusals.{first_that_holds, may_be_taken, text_refusals}
+use Rattle.hal_loader.specs.Taker.{TakerView}
 use Rattle.hal_loader.specs.Text.{code_said, content_said, records_of}
 use Rattle.hal_loader.specs.Unloading.{fields_said, row_line}
+use Rattle.hal_loader.specs.declared.records.LoadFault.{LoadFault}
+use Rattle.hal_loader.specs.declared.records.LoadFault.TheVariants.{NotEmpty, Row as BrokenRow, Failed, Memory}
 
 -- a row that a taker may be asked to take, with entries that are free, and a name that no row has
 pub record ComesLawfully (schema : Schema) (rows : List Row) (row : Row) (name : Ilk) : Type 0 where
@@ -64,3 +68,27 @@ pub record LoadsAgain (schema : Schema) (rows : List Row) (free : ℕ) : Type 0 
 abbrev pub UnloadedRowsLoadAgain : Type 0
 UnloadedRowsLoadAgain = (schema : Schema) (rows : List Row) (free : ℕ) → IsTrue (is_forest schema rows) → IsTrue (are_bytes rows)
     → 3 + length schema.indexes ≤ free → LoadsAgain schema rows free
+
+-- ---- under the names that a taker gives
+
+-- a row under another name, and its parent's
+abbrev pub renamed : (Ilk → Ilk) → Row → Row
+renamed name row = record { name = name row.name; code = row.code; parent = option_map name row.parent; content = row.content }
+
+-- the rows are there, in order, under some names
+pub record CameBack (rows : List Row) (new : TakerView) (count : ℕ) : Type 0 where
+  pub count_is : count ≡ length rows
+  pub name : Ilk → Ilk
+  pub rows_now : new.rows ≡ Some (map (renamed name) rows)
+
+-- what a load of the text of a forest's rows answers, whatever names the taker gives: all rows came back, or blocks didn't suffice
+abbrev pub ComesBack : List Row → TakerView → Result ℕ LoadFault → Type 0
+ComesBack rows new (Ok count) = CameBack rows new count
+ComesBack rows new (Err NotEmpty) = ⊥
+ComesBack rows new (Err (BrokenRow number code)) = code ≡ codes "+R"
+ComesBack rows new (Err Failed) = ⊤
+ComesBack rows new (Err Memory) = ⊤
+
+abbrev pub UnloadedRowsComeBack : Type 0
+UnloadedRowsComeBack = (schema : Schema) (rows : List Row) (old new : TakerView) (result : Result ℕ LoadFault) → IsTrue (is_forest schema rows) → IsTrue (are_bytes rows)
+    → LoadsTold schema (unloaded schema.types rows) [] old new result → ComesBack rows new result

@@ -1,5 +1,5 @@
 // Laws of loads. They have no code.
-ghost use Rattle.hal_loader.specs.Laws.{LoadingKeeps, TakingKeeps, UnloadedRowsAreSaid, UnloadedRowsLoadAgain};
+ghost use Rattle.hal_loader.specs.Laws.{LoadingKeeps, TakingKeeps, UnloadedRowsAreSaid, UnloadedRowsComeBack, UnloadedRowsLoadAgain};
 
 use forest_laws::{insertion_keeps, paths_are_ancestries};
 use hal_schema::schemas_are_kept;
@@ -34,5 +34,16 @@ pub fn unloaded_rows_load_again()
     schemas_are_kept();
     root_order_is_total();
     paths_are_ancestries();
+    unloaded_rows_are_said();
+}
+
+/// A load of the text of a forest's rows takes them all, under whatever names the taker gives, or lacks free blocks.
+pub fn unloaded_rows_come_back()
+    ensures { UnloadedRowsComeBack }
+{
+    schemas_are_kept();
+    root_order_is_total();
+    paths_are_ancestries();
+    taking_keeps();
     unloaded_rows_are_said();
 }

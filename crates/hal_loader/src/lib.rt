@@ -28,7 +28,10 @@ mod taker;
 mod twins;
 mod unload;
 
-pub use laws::{loading_keeps, taking_keeps, unloaded_rows_are_said, unloaded_rows_load_again};
+pub use laws::{
+    loading_keeps, taking_keeps, unloaded_rows_are_said, unloaded_rows_come_back,
+    unloaded_rows_load_again,
+};
 pub use records::{LoadFault, load};
 pub use taker::{RowTaker, TakeFault};
 pub use unload::unload_row;
