@@ -1,3 +1,5 @@
 mod Deciding
 mod Deleting
 mod Looking
+mod Moving
+mod Replacing

@@ -6,7 +6,7 @@ use Rattle.position_state.specs.declared.session.Anchor.{Anchor}
 use Rattle.position_state.specs.declared.session.Anchor.TheVariants.{Front, At}
 use Rattle.position_state.specs.declared.session.Session.{Session}
 use Rattle.position_state.specs.declared.spot.Change.{Change}
-use Rattle.position_state.specs.declared.spot.Change.TheVariants.{Nothing, Delete}
+use Rattle.position_state.specs.declared.spot.Change.TheVariants.{Nothing, Replace, Delete}
 use Rattle.position_state.specs.Lawful.{IsLawful}
 use Rattle.position_state.specs.Looks.{WalkView}
 use Rattle.dli_calls.specs.declared.decision.Decision.{Decision}
@@ -38,3 +38,9 @@ abbrev pub deletion_of : Option Anchor → Change
 deletion_of None = Nothing
 deletion_of (Some Front) = Nothing
 deletion_of (Some (At name root entry)) = Delete name root
+
+-- a REPL gives the held row other content
+abbrev pub replacement_of : Option Anchor → List ℕ → Change
+replacement_of None content = Nothing
+replacement_of (Some Front) content = Nothing
+replacement_of (Some (At name root entry)) content = Replace name root content

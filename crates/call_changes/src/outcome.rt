@@ -1,5 +1,5 @@
 // Refusals, and changes of the held row that are carried out.
-ghost use Rattle.std.specs.Prelude.{◌≡◌, IfOk, IfSome, IsErrOf, IsTrue, None};
+ghost use Rattle.std.specs.Prelude.{◌≡◌, IfOk, IfSome, IsErrOf, IsTrue, None, Some, codes};
 ghost use Rattle.position_state.specs.AfterChange.{AreOfList, LooksUpTo, looks_for};
 ghost use Rattle.position_state.specs.Keep.{changed, kept_session};
 ghost use Rattle.dli_calls.specs.Changes.{no_name};
@@ -21,6 +21,15 @@ pub(crate) fn refused(session: &Session, status: [u8; 2]) -> Result<Decision, Me
         change: Change::Nothing,
         session: unheld(session.copy()?),
     })
+}
+
+/// A refusal for want of so many free blocks.
+pub(crate) fn refused_for_room(session: &Session, need: u32) -> Result<Decision, Memory>
+    ensures { IfOk result (λ d. d ≡ refused_with (codes "+R") (Some need) session.now) }
+{
+    let mut decision = refused(session, *b"+R")?;
+    decision.reply.number = Some(need);
+    Ok(decision)
 }
 
 /// A change of the held row is carried out: of its own session it leaves what it leaves of every other, without the hold.
