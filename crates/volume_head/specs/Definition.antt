@@ -1,9 +1,9 @@
 -- Which schema an image is the volume of: soundness rule 1, in its part on the head and the definition. The bytes of
 -- the gate's block are not looked at here.
-use Rattle.std.specs.Prelude.{◌≡◌, ℕ, ◌*◌, ◌≤◌, List, length, take, drop, Result, Ok, Err}
+use Rattle.std.specs.Prelude.{◌≡◌, ℕ, ◌*◌, ◌≤◌, List, length, take, drop}
 use Rattle.hal_schema.specs.declared.schema.Schema.{Schema}
 use Rattle.definition_text.specs.Builds.{IsDefinitionOf}
-use Rattle.volume_head.specs.Head.{IsMarked, canonical_text, blocks_for, in_blocks, head_of, most_text}
+use Rattle.volume_head.specs.Head.{canonical_text, blocks_for, in_blocks, head_of, most_text}
 
 -- a text that is the canonical one of this schema, and as a definition is that of this schema
 pub record IsCanonical (text : List ℕ) (schema : Schema) : Type 0 where
