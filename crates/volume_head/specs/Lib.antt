@@ -1,0 +1,4 @@
+pub mod Calls
+pub mod Definition
+pub mod Head
+pub mod Reading
