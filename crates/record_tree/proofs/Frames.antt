@@ -15,7 +15,7 @@ use Rattle.record_tree.specs.Changing.{ChangesSide}
 use Rattle.record_tree.proofs.RootRows.{Alike}
 
 -- a cell stands at addresses of the ten letters alone
-within_ten : (first : SetId) (shapes : List Shape) (shelf : ShelfView) (at : ℕ) (cell : Cell) → side_cell first shapes shelf at ≡ Some cell → place_at at < 10
+pub within_ten : (first : SetId) (shapes : List Shape) (shelf : ShelfView) (at : ℕ) (cell : Cell) → side_cell first shapes shelf at ≡ Some cell → place_at at < 10
 unfolding side_cell
 within_ten first shapes shelf at cell is = by (nat_lt (place_at at) 10) refl is
   where
@@ -24,14 +24,14 @@ within_ten first shapes shelf at cell is = by (nat_lt (place_at at) 10) refl is
     by false e f = let none : None ≡ Some cell = f in cc
 
 -- the root set is none of the letters'
-roots_apart : (first : SetId) (place : ℕ) → IsFirst first → place < 10 → lettered first place ≡ root_set first → ⊥
+pub roots_apart : (first : SetId) (place : ℕ) → IsFirst first → place < 10 → lettered first place ≡ root_set first → ⊥
 roots_apart first place f below e = by (first.letter == 65) (ap (λ (s : SetId). s.letter) e)
   where
     by : (b : Bool) → first.letter + place ≡ (if b then 88 else 89) → ⊥
     by true is = let high = f.high in omega (arith, high, below, is)
     by false is = let high = f.high in omega (arith, high, below, is)
 
-untold_all : (old new : ShelfView) (changed : SetId) → Alike old → Alike new → (old.pages changed ≡ None → new.pages changed ≡ None) → (set : SetId) → old.pages set ≡ None → (other : SetId) → new.pages other ≡ None
+pub untold_all : (old new : ShelfView) (changed : SetId) → Alike old → Alike new → (old.pages changed ≡ None → new.pages changed ≡ None) → (set : SetId) → old.pages set ≡ None → (other : SetId) → new.pages other ≡ None
 untold_all old new changed before after untold set none other = after changed other (untold (before set changed none))
 
 pub told_back : (old new : ShelfView) (changed : SetId) → Alike old → Alike new → (old.pages changed ≡ None → new.pages changed ≡ None) → (set : SetId) → IsSome (new.pages set) → IsSome (old.pages set)

@@ -6,3 +6,8 @@ pub mod Types
 pub mod Opening
 pub mod Frames
 pub mod Replacing
+pub mod CellFrames
+pub mod Descending
+pub mod Passing
+pub mod Cutting
+pub mod Downward

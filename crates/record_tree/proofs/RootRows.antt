@@ -81,14 +81,14 @@ if_some (Some x) P holds = holds x refl
 abbrev pub Alike : ShelfView → Type 0
 Alike shelf = (set other : SetId) → shelf.pages set ≡ None → shelf.pages other ≡ None
 
-told_pages : (first roots : SetId) (shelf : ShelfView) → Alike shelf → IsSome (shelf.pages first) → (pages : List (List ℕ)) × (shelf.pages roots ≡ Some pages)
+pub told_pages : (first roots : SetId) (shelf : ShelfView) → Alike shelf → IsSome (shelf.pages first) → (pages : List (List ℕ)) × (shelf.pages roots ≡ Some pages)
 told_pages first roots shelf alike told = by (shelf.pages roots) refl
   where
     by : (o : Option (List (List ℕ))) → shelf.pages roots ≡ o → (pages : List (List ℕ)) × (shelf.pages roots ≡ Some pages)
     by None is = absurd (false≢true (subst (λ (o : Option (List (List ℕ))). IsSome o) (alike roots first is) told))
     by (Some pages) is = (pages, is)
 
-in_row : (cells : ℕ → Option Cell) (firsts : List ℕ) (trees : Chains) (k : ℕ) → k < length firsts → IsIn (Root k) cells firsts trees
+pub in_row : (cells : ℕ → Option Cell) (firsts : List ℕ) (trees : Chains) (k : ℕ) → k < length firsts → IsIn (Root k) cells firsts trees
 in_row cells firsts trees k lt = record {
   met = λ home e. absurd (let wrong : None ≡ Some home = e in cc);
   child = λ above place cell e. absurd (let wrong : Root k ≡ Below above place = e in cc);

@@ -3,3 +3,5 @@ pub mod Standing
 pub mod OneProof
 pub mod Finding
 pub mod Changing
+pub mod Cutting
+pub mod Descending

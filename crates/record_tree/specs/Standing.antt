@@ -41,6 +41,13 @@ pub record StandsForRecords (records : Records) (shelf : ShelfView) : Type 0 whe
   pub roots : IsOpened records.roots shelf
   pub side : IsTold records.cells shelf → IsSide records.schema records.place (cells_seen records shelf) (rows_seen records shelf)
 
+-- it is the side that it was, and is open
+pub record StaysRecords (before now : Records) (shelf : ShelfView) : Type 0 where
+  pub schema : now.schema ≡ before.schema
+  pub place : now.place ≡ before.place
+  pub first : now.first ≡ before.first
+  pub stands : StandsForRecords now shelf
+
 -- the pages are told, and these trees hang in them from the rows of the root set
 pub record Walks (records : Records) (shelf : ShelfView) (trees : Chains) : Type 0 where
   pub told : IsTold records.cells shelf

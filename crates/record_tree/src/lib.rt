@@ -13,13 +13,19 @@
 //!
 //! `records.rt` has `Records`, `open.rt` opens them; `sides.rt` what a definition says of a side
 //! `roots.rt` finds roots by key, `links.rt` cells, and what they lead to; `replace.rt` replaces a content
+//! `remove.rt` cuts spans and records out: `parting.rt` sets the pointer past them, `descent.rt` ends their cells; `place.rt` has `Place`
 #![tactic(auto)]
 
+mod descent;
 mod links;
 mod open;
+mod parting;
+mod place;
 mod records;
+mod remove;
 mod replace;
 mod roots;
 mod sides;
 
+pub use place::Place;
 pub use records::Records;
