@@ -29,8 +29,9 @@ use Rattle.dli_calls.specs.Meets.{clauses_hold, holds_on, later_twins, meets, on
 use Rattle.dli_calls.specs.Gets.{OnPath, is_unique}
 use Rattle.dli_calls.specs.Refusals.{is_at_root_key}
 use Rattle.call_gets.specs.Keyed.{key_wanted, keyed_by, one_of, root_wanted}
-use Rattle.call_gets.proofs.Roots.{is_keyed, root_key}
-use Rattle.call_gets.proofs.Skipping.{level, kept}
+use Rattle.view_laws.specs.Views.{is_keyed, root_field}
+use Rattle.call_gets.proofs.Rooted.{deep_of, keyed_next, level_off, root_alone, root_of}
+use Rattle.call_gets.proofs.Skipping.{level}
 
 and_true : (b : Bool) → (b && true) ≡ b
 and_true true = refl
@@ -101,12 +102,12 @@ at_key (Some k) f content e =
     ap (λ s. portion s k.bytes content) (eqb-true k.start f.start a.0) ∙ ap (λ b. portion f.start b content) (eqb-true k.bytes f.bytes a.1)
 
 -- it holds for a root that has the key, and no other
-pub holds_by_key : (schema : Schema) (view : List Spot) (ssa : Ssa) (key : List ℕ) (x : Spot) → Wants schema ssa key → x.code ≡ 1 → bytes_eq x.key (root_key schema.types x.content) ≡ true → ssa_holds schema None view ssa x ≡ bytes_eq x.key key
+pub holds_by_key : (schema : Schema) (view : List Spot) (ssa : Ssa) (key : List ℕ) (x : Spot) → Wants schema ssa key → x.code ≡ 1 → bytes_eq x.key (root_field schema.types x.content) ≡ true → ssa_holds schema None view ssa x ≡ bytes_eq x.key key
 holds_by_key schema view ssa key x w one keyed =
     let holds : Spot → Bool = λ other. clauses_hold (clause_holds schema None x.code other) ssa.clauses in
     let field : List ℕ = portion w.field.start w.field.bytes x.content in
     let same : x.key ≡ field =
-    (bytes_eq-Decides x.key (root_key schema.types x.content)).0 keyed ∙ at_key (option_and_then (λ (t : SegType). t.key) (type_of schema.types 1)) w.field x.content w.at in
+    (bytes_eq-Decides x.key (root_field schema.types x.content)).0 keyed ∙ at_key (option_and_then (λ (t : SegType). t.key) (type_of schema.types 1)) w.field x.content w.at in
     ap (λ b. holds x && not (b && list_any holds (later_twins view x))) w.last ∙ and_true (holds x)
     ∙ ap (clauses_hold (clause_holds schema None x.code x)) w.clauses
     ∙ ap (λ code. clause_holds schema None code x w.clause) one
@@ -117,31 +118,7 @@ holds_by_key schema view ssa key x w one keyed =
 
 -- ---- along the view
 
-abbrev is_deep : Spot → Bool
-is_deep spot = nat_lt 0 spot.level
-
-kept_first : (l : ℕ) (path : List Spot) → list_all is_deep path ≡ true → l ≡ 1 → kept l path ≡ []
-kept_first l [] h e = refl
-kept_first l (x ∷ xs) h e =
-    let a = and_parts (is_deep x) (list_all is_deep xs) h in
-    let off : nat_lt x.level l ≡ false = le-ltb x.level l (omega (arith, e, ltb-true 0 x.level a.0)) in
-    ap (λ b. cond b (x ∷ kept l xs) (kept l xs)) off ∙ kept_first l xs a.1 e
-
-deep_kept : (l : ℕ) (path : List Spot) → list_all is_deep path ≡ true → list_all is_deep (kept l path) ≡ true
-deep_kept l [] h = refl
-deep_kept l (x ∷ xs) h =
-    let a = and_parts (is_deep x) (list_all is_deep xs) h in
-    by (nat_lt x.level l) a.0 (deep_kept l xs a.1)
-  where
-    by : (b : Bool) → is_deep x ≡ true → list_all is_deep (kept l xs) ≡ true → list_all is_deep (cond b (x ∷ kept l xs) (kept l xs)) ≡ true
-    by true f rest = and_from (is_deep x) (list_all is_deep (kept l xs)) f rest
-    by false f rest = rest
-
-deep_next : (path : List Spot) (x : Spot) → list_all is_deep path ≡ true → is_deep x ≡ true → list_all is_deep (path_with level path x) ≡ true
-deep_next path x h d =
-    list_all-append is_deep (kept x.level path) (x ∷ []) ∙ and_from (list_all is_deep (kept x.level path)) (is_deep x && true) (deep_kept x.level path h) (and_from (is_deep x) true d refl)
-
-meets_root : (schema : Schema) (view : List Spot) (ssa : Ssa) (key : List ℕ) (x : Spot) → Wants schema ssa key → (x.code == 1) ≡ true → bytes_eq x.key (root_key schema.types x.content) ≡ true
+meets_root : (schema : Schema) (view : List Spot) (ssa : Ssa) (key : List ℕ) (x : Spot) → Wants schema ssa key → (x.code == 1) ≡ true → bytes_eq x.key (root_field schema.types x.content) ≡ true
     → meets schema None view (ssa ∷ []) (x ∷ [], x) ≡ bytes_eq x.key key
 meets_root schema view ssa key x w e k =
     let one : x.code ≡ 1 = eqb-true x.code 1 e in
@@ -164,12 +141,12 @@ chosen : (b : Bool) (x : Spot) (o : Option Spot) → cond b (Some (lone x)) (opt
 chosen true x o = refl
 chosen false x o = refl
 
-by_key : (schema : Schema) (view : List Spot) (ssa : Ssa) (key : List ℕ) → Wants schema ssa key → (path ys : List Spot) → list_all is_deep path ≡ true → list_all (is_keyed schema.types) ys ≡ true
+by_key : (schema : Schema) (view : List Spot) (ssa : Ssa) (key : List ℕ) → Wants schema ssa key → (path ys : List Spot) → list_all (is_keyed schema.types) path ≡ true → list_all (is_keyed schema.types) ys ≡ true
     → find (meets schema None view (ssa ∷ [])) (with_paths level path ys) ≡ option_map lone (root_of_key key ys)
 by_key schema view ssa key w path [] h k = refl
 by_key schema view ssa key w path (x ∷ xs) h k =
     let a = and_parts (is_keyed schema.types x) (list_all (is_keyed schema.types) xs) k in
-    by (x.code == 1) refl a.0 (λ d. by_key schema view ssa key w (path_with level path x) xs d a.1)
+    by (x.code == 1) refl a.0 (by_key schema view ssa key w (path_with level path x) xs (keyed_next schema.types path x h a.0) a.1)
   where
     test : OnPath → Bool
     test = meets schema None view (ssa ∷ [])
@@ -177,24 +154,20 @@ by_key schema view ssa key w path (x ∷ xs) h k =
     next : List Spot
     next = path_with level path x
 
-    by : (b : Bool) → (x.code == 1) ≡ b → cond b (x.level == 1 && bytes_eq x.key (root_key schema.types x.content)) (nat_lt 1 x.level) ≡ true
-        → (list_all is_deep next ≡ true → find test (with_paths level next xs) ≡ option_map lone (root_of_key key xs))
+    by : (b : Bool) → (x.code == 1) ≡ b → is_keyed schema.types x ≡ true → find test (with_paths level next xs) ≡ option_map lone (root_of_key key xs)
         → cond (test (next, x)) (Some (next, x)) (find test (with_paths level next xs)) ≡ option_map lone (cond (x.level == 1 && bytes_eq x.key key) (Some x) (root_of_key key xs))
     by true e f rest =
-        let p = and_parts (x.level == 1) (bytes_eq x.key (root_key schema.types x.content)) f in
-        let one : x.level ≡ 1 = eqb-true x.level 1 p.0 in
-        let alone : next ≡ x ∷ [] = ap (λ (ys : List Spot). ys ++ x ∷ []) (kept_first x.level path h one) in
-        ap (λ (o : Option OnPath). cond (test (next, x)) (Some (next, x)) o) (rest (deep_next path x h (lt-ltb 0 x.level (omega (arith, one)))))
+        let r = root_of schema.types x f e in
+        let alone : next ≡ x ∷ [] = root_alone schema.types path x h r.level in
+        ap (λ (o : Option OnPath). cond (test (next, x)) (Some (next, x)) o) rest
         ∙ ap (λ (ys : List Spot). cond (test (ys, x)) (Some (ys, x)) (option_map lone (root_of_key key xs))) alone
-        ∙ ap (λ b. cond b (Some (lone x)) (option_map lone (root_of_key key xs))) (meets_root schema view ssa key x w e p.1)
+        ∙ ap (λ b. cond b (Some (lone x)) (option_map lone (root_of_key key xs))) (meets_root schema view ssa key x w e r.own)
         ∙ chosen (bytes_eq x.key key) x (root_of_key key xs)
-        ∙ ap (λ b. option_map lone (cond (b && bytes_eq x.key key) (Some x) (root_of_key key xs))) (sym p.0)
+        ∙ ap (λ b. option_map lone (cond (b && bytes_eq x.key key) (Some x) (root_of_key key xs))) (sym (eq-eqb x.level 1 r.level))
     by false e f rest =
-        let low = ltb-true 1 x.level f in
-        let off : (x.level == 1) ≡ false = false_from_ne_true (x.level == 1) (λ t. omega (arith, eqb-true x.level 1 t, low)) in
         ap (λ b. cond b (Some (next, x)) (find test (with_paths level next xs))) (misses schema view next ssa key x w e)
-        ∙ rest (deep_next path x h (lt-ltb 0 x.level (omega (arith, low))))
-        ∙ ap (λ b. option_map lone (cond (b && bytes_eq x.key key) (Some x) (root_of_key key xs))) (sym off)
+        ∙ rest
+        ∙ ap (λ b. option_map lone (cond (b && bytes_eq x.key key) (Some x) (root_of_key key xs))) (sym (level_off x (deep_of schema.types x f e)))
 
 -- the root that has the key is what such an SSA finds
 pub found_by_key : (schema : Schema) (view : List Spot) (ssa : Ssa) (key : List ℕ) → root_wanted schema ssa ≡ Some key → list_all (is_keyed schema.types) view ≡ true

@@ -1,15 +1,16 @@
 -- Which elements meet SSAs, and which paths no element below can meet them by.
-use Rattle.std.proofs.Common.{◌≡◌, ℕ, ◌==◌, ◌<◌, Bool, true, false, not, cond, ◌&&◌, List, [], ◌∷◌, ◌++◌, length, get_or, Option, None, Some, refl, sym, ap, subst, ◌∙◌}
+use Rattle.std.proofs.Common.{◌≡◌, ℕ, zero, suc, ◌+◌, ◌==◌, ◌<◌, drop, Bool, true, false, not, cond, ◌&&◌, List, [], ◌∷◌, ◌++◌, length, get_or, Option, None, Some, refl, sym, ap, subst, ◌∙◌}
 use Rattle.std.specs.Prelude.{find, is_some, All}
-use Rattle.std.specs.List.{list_all, last_or}
+use Rattle.std.specs.List.{list_all, list_any, last_or}
 use Rattle.std.specs.Option.{option_map, option_map_or, option_and_then, option_or}
-use Rattle.std.proofs.lemmas.Bool.{and_right}
+use Rattle.std.proofs.lemmas.Bool.{and_right, or_parts}
 use Rattle.std.proofs.lemmas.List.Elements.{All-head, All-tail}
 use Rattle.std.proofs.lemmas.List.Folds.{find-append, list_all_at}
 use Rattle.hal_schema.specs.declared.schema.Schema.{Schema}
 use Rattle.call_text.specs.declared.line.Ssa.{Ssa}
 use Rattle.position_state.specs.declared.spot.Spot.{Spot}
-use Rattle.dli_calls.specs.Ssas.{code_named}
+use Rattle.dli_calls.specs.Ssas.{asks_last, code_named}
+use Rattle.call_gets.proofs.Listing.{left_is}
 use Rattle.dli_calls.specs.Meets.{holds_on, ssa_holds, is_of, meets}
 use Rattle.call_gets.specs.Scan.{IsClosed, IsOn, IsVerdict, of_ssa}
 use Rattle.call_gets.specs.declared.judged.Verdict.{Verdict}
@@ -133,3 +134,14 @@ judged_by schema view ssas path spot last verdict h e = subst (IsVerdict schema 
     by : (b : Bool) → meets schema None view ssas (path, spot) ≡ b → IsVerdict schema view ssas path spot (cond b Meets Open)
     by true k = k
     by false k = k
+
+-- ---- SSAs without L
+
+none_left : (ssas : List Ssa) (i : ℕ) → list_any asks_last ssas ≡ false → list_any asks_last (drop i ssas) ≡ false
+none_left ssas zero h = h
+none_left [] (suc i) h = refl
+none_left (ssa ∷ ssas) (suc i) h = none_left ssas i (or_parts (asks_last ssa) (list_any asks_last ssas) h).1
+
+pub none_last : (ssas : List Ssa) (i : ℕ) (ssa : Ssa) → list_any asks_last ssas ≡ false → i < length ssas → ssa ≡ get_or ssas i ssa → asks_last ssa ≡ false
+none_last ssas i ssa h lt e =
+    (or_parts (asks_last ssa) (list_any asks_last (drop (i + 1) ssas)) (ap (list_any asks_last) (sym (left_is ssas i ssa lt e)) ∙ none_left ssas i h)).0

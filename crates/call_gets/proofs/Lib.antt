@@ -1,6 +1,7 @@
 mod Asking
 mod Below
 mod ByKey
+mod ByRecord
 mod Climbs
 mod Deciding
 mod Finding
@@ -10,7 +11,7 @@ mod Listing
 mod Looking
 mod Moving
 mod Parting
-mod Roots
+mod Rooted
 mod Routing
 mod Showing
 mod Skipping

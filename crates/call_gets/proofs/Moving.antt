@@ -1,8 +1,8 @@
 -- One step of a scan, and many.
-use Rattle.std.proofs.Common.{◌≡◌, ℕ, ◌<◌, ◌≤◌, Bool, true, false, cond, ◌&&◌, List, [], ◌∷◌, ◌++◌, Option, None, Some, refl, sym, ap, subst, ◌∙◌, arith}
+use Rattle.std.proofs.Common.{◌≡◌, ℕ, ◌+◌, ◌<◌, ◌≤◌, Bool, true, false, cond, ◌&&◌, List, [], ◌∷◌, ◌++◌, Option, None, Some, refl, sym, ap, subst, ◌∙◌, arith}
 use Rattle.std.specs.Prelude.{nat_le, nat_lt, slice_get, All, IfSome}
 use Rattle.std.specs.List.{list_all}
-use Rattle.std.proofs.lemmas.Bool.{and_from, ltb-true, lt-ltb, le-leb, le-ltb}
+use Rattle.std.proofs.lemmas.Bool.{and_parts, and_from, ltb-true, lt-ltb, le-leb, le-ltb}
 use Rattle.std.proofs.lemmas.List.{append-nil}
 use Rattle.std.proofs.lemmas.List.Elements.{filter-append, All-filter, All-push}
 use Rattle.std.proofs.lemmas.List.Folds.{list_all-append}
@@ -15,7 +15,7 @@ use Rattle.position_state.specs.Looks.{past, first_behind}
 use Rattle.dli_calls.specs.Meets.{meets}
 use Rattle.dli_calls.specs.Gets.{OnPath}
 use Rattle.call_gets.specs.declared.scan.Step.TheVariants.{Ends, GoesOn}
-use Rattle.call_gets.specs.Scan.{AreFound, IsFound, IsClosed, IsStep, from_on, is_inside, first_inside, met_from}
+use Rattle.call_gets.specs.Scan.{AreFound, IsFound, IsClosed, IsNearer, IsStep, from_on, inside_ahead, is_inside, first_inside, met_from}
 use Rattle.call_gets.proofs.Stepping.{Differ, ends_behind, next_of, passed, Passed}
 use Rattle.call_gets.proofs.Skipping.{level, kept, kept_low, kept_is_low, outside, meets_here, goes_below, skip}
 
@@ -105,3 +105,41 @@ step_closed schema view ssas top old above s next d inside e f closed n =
         ahead = q.found;
       },
     )
+
+-- ---- fewer are ahead after a step
+
+ahead_past : (top : Option ℕ) (m : ℕ) (deep ys : List Spot) → list_all (λ x. nat_lt m x.level) deep ≡ true → ((x : Spot) → m < x.level → is_inside top x ≡ true) → inside_ahead top ys ≤ inside_ahead top (deep ++ ys)
+ahead_past top m [] ys h inside = omega arith
+ahead_past top m (x ∷ xs) ys h inside =
+    let a = and_parts (nat_lt m x.level) (list_all (λ x. nat_lt m x.level) xs) h in
+    let here : inside_ahead top (x ∷ (xs ++ ys)) ≡ 1 + inside_ahead top (xs ++ ys) = ap (λ b. cond b (1 + inside_ahead top (xs ++ ys)) 0) (inside x (ltb-true m x.level a.0)) in
+    omega (arith, here, ahead_past top m xs ys a.1 inside)
+
+ahead_here : (top : Option ℕ) (s : Spot) (ys : List Spot) → is_inside top s ≡ true → inside_ahead top (s ∷ ys) ≡ 1 + inside_ahead top ys
+ahead_here top s ys inside = ap (λ b. cond b (1 + inside_ahead top ys) 0) inside
+
+pub nearer_open : (view : List Spot) (top : Option ℕ) (s : Spot) (next : Option Spot) → Differ view → is_inside top s ≡ true → IsFound view s → next ≡ first_behind s.at view → IsNearer top view s (GoesOn next)
+nearer_open view top s next d inside f n =
+    let q = next_of view (behind s.at view) d (ends_behind view s d f) in
+    let same : inside_ahead top (behind s.at view) ≡ inside_ahead top (from_on view next) = ap (inside_ahead top) q.is ∙ ap (λ (o : Option Spot). inside_ahead top (from_on view o)) (sym n) in
+    omega (arith, ahead_here top s (behind s.at view) inside, same)
+
+pub nearer_closed : (view : List Spot) (top : Option ℕ) (s : Spot) (next : Option Spot) → Differ view → is_inside top s ≡ true → IsFound view s → next ≡ past s view → IsNearer top view s (GoesOn next)
+nearer_closed view top s next d inside f n =
+    let q : Passed view (behind s.at view) s.level next = subst (Passed view (behind s.at view) s.level) (sym n) (passed view (behind s.at view) s.level d (ends_behind view s d f)) in
+    let same : inside_ahead top (behind s.at view) ≡ inside_ahead top (q.deep ++ from_on view next) = ap (inside_ahead top) q.is in
+    omega (arith, ahead_here top s (behind s.at view) inside, same, ahead_past top s.level q.deep (from_on view next) q.deeper (λ x lt. deeper_inside top s x inside lt))
+
+-- what is left of the elements that are ahead, and how often was looked
+pub ahead_on : (view : List Spot) (top : Option ℕ) (first now other : Option Spot) (s : Spot) (old mid new : ℕ) → now ≡ Some s → mid + inside_ahead top (from_on view now) ≤ old + inside_ahead top (from_on view first) → new ≤ mid + 1
+    → IsNearer top view s (GoesOn other) → new + inside_ahead top (from_on view other) ≤ old + inside_ahead top (from_on view first)
+ahead_on view top first now other s old mid new e h n k =
+    let same : inside_ahead top (from_on view now) ≡ inside_ahead top (from_on view (Some s)) = ap (λ (o : Option Spot). inside_ahead top (from_on view o)) e in
+    omega (arith, h, n, k, same)
+
+-- a look more, at an element that is inside
+pub ahead_end : (view : List Spot) (top : Option ℕ) (first now : Option Spot) (s : Spot) (old mid new : ℕ) → now ≡ Some s → is_inside top s ≡ true → mid + inside_ahead top (from_on view now) ≤ old + inside_ahead top (from_on view first) → new ≤ mid + 1
+    → new ≤ old + inside_ahead top (from_on view first)
+ahead_end view top first now s old mid new e inside h n =
+    let same : inside_ahead top (from_on view now) ≡ inside_ahead top (from_on view (Some s)) = ap (λ (o : Option Spot). inside_ahead top (from_on view o)) e in
+    omega (arith, h, n, same, ahead_here top s (behind s.at view) inside)

@@ -47,7 +47,7 @@ none_kept test m l (x ∷ xs) h le =
     by true k o true e rest = absurd (omega (arith, eqb-true x.level m o, ltb-true x.level l e, le))
     by false k o true e rest = or_from (test x) (list_any test (kept l xs)) k rest
 
-all_kept : (test : Spot → Bool) (l : ℕ) (xs : List Spot) → list_all test xs ≡ true → list_all test (kept l xs) ≡ true
+pub all_kept : (test : Spot → Bool) (l : ℕ) (xs : List Spot) → list_all test xs ≡ true → list_all test (kept l xs) ≡ true
 all_kept test l [] h = refl
 all_kept test l (x ∷ xs) h =
     let a = and_parts (test x) (list_all test xs) h in

@@ -1,5 +1,6 @@
 -- What a scan of the view in hierarchic sequence finds: it goes from element to element, and carries the path.
-use Rattle.std.specs.Prelude.{◌≡◌, ℕ, ◌==◌, ◌-◌, ◌^◌, ◌≤◌, min, nat_lt, Bool, true, false, not, List, [], ◌∷◌, ◌++◌, find, filter, All, Option, None, Some, IfSome, if◌then◌else◌}
+use Rattle.std.specs.Prelude.{◌≡◌, ℕ, ◌+◌, ◌==◌, ◌-◌, ◌^◌, ◌≤◌, min, nat_lt, Bool, true, false, not, List, [], ◌∷◌, ◌++◌, find, filter, All, Option, None, Some, IfSome, if◌then◌else◌}
+use Rattle.std.specs.List.{list_any}
 use Rattle.std.specs.Option.{ForSome, option_map, option_map_or, option_and_then}
 use Rattle.hal_base.specs.Fault.{Fails}
 use Rattle.hal_schema.specs.declared.row.Row.{Row}
@@ -13,7 +14,7 @@ use Rattle.position_state.specs.declared.session.Session.{Session}
 use Rattle.position_state.specs.declared.spot.Spot.{Spot}
 use Rattle.position_state.specs.View.{view_of, is_at, behind}
 use Rattle.position_state.specs.Looks.{WalkView, found_at}
-use Rattle.dli_calls.specs.Ssas.{code_named}
+use Rattle.dli_calls.specs.Ssas.{asks_last, code_named}
 use Rattle.dli_calls.specs.Meets.{on_paths, meets, ssa_holds}
 use Rattle.dli_calls.specs.Gets.{OnPath, is_below_parent, paths_behind}
 use Rattle.dli_calls.specs.Decided.{decision_of}
@@ -126,6 +127,22 @@ IsStep schema view ssas top met path (GoesOn next) = (met ≡ met_from schema vi
 abbrev pub Steps : Schema → WalkView → List Ssa → Option ℕ → List Spot → Spot → List Spot → Step → Type 0
 Steps schema seen ssas top old spot new step =
     IfSome seen.forest (λ rows. let view = plain_view schema rows in IsStep schema view ssas top (met_from schema view ssas top old (Some spot)) new step)
+
+-- ---- how often a scan looks
+
+-- how many elements of a list stand before the first that a scan goes no further than
+abbrev pub inside_ahead : Option ℕ → List Spot → ℕ
+inside_ahead top [] = 0
+inside_ahead top (spot ∷ more) = if is_inside top spot then 1 + inside_ahead top more else 0
+
+-- fewer of them are ahead after a step that goes on
+abbrev pub IsNearer : Option ℕ → List Spot → Spot → Step → Type 0
+IsNearer top view spot (Ends found) = Unit {0}
+IsNearer top view spot (GoesOn next) = 1 + inside_ahead top (from_on view next) ≤ inside_ahead top (from_on view (Some spot))
+
+-- where no SSA has L, there are no more looks than this, which the list says where it is told
+abbrev pub LooksWithin : List Ssa → WalkView → WalkView → (List Row → ℕ) → Type 0
+LooksWithin ssas old new most = list_any asks_last ssas ≡ false → IfSome old.forest (λ rows. new.looks ≤ old.looks + most rows)
 
 -- ---- gets
 

@@ -6,21 +6,21 @@ ghost use Rattle.position_state.specs.Lawful.{Stands};
 ghost use Rattle.position_state.specs.Looks.{first_behind, root_of_key, stands_in};
 ghost use Rattle.dli_calls.specs.Gets.{paths_behind};
 ghost use Rattle.dli_calls.specs.Meets.{meets, on_paths};
-ghost use Rattle.call_gets.specs.Scan.{IsGot, IsPath, LooksOn, level_at, met_behind, met_below, on_its_path, path_of, plain_view};
+ghost use Rattle.call_gets.specs.Scan.{IsGot, IsPath, IsShown, LooksOn, LooksWithin, from_on, inside_ahead, level_at, met_behind, met_below, met_from, on_its_path, path_of, plain_view};
 ghost use Rattle.call_gets.specs.Shown.{IsGiven, IsGotBy, is_of_any};
-ghost use Rattle.call_gets.specs.Keyed.{keyed_by};
+ghost use Rattle.call_gets.specs.Keyed.{keyed_by, keyed_path, met_in_record, rows_under};
 
 use crate::functions::{is_next, is_unique};
-use crate::keyed::keyed_by;
+use crate::keyed::{keyed_by, keyed_path};
 use crate::place::is_same_place;
 use crate::route::path_to;
-use crate::scan::{Met, first_met};
+use crate::scan::{Met, first_met, join};
 use call_text::{Call, Ssa};
 use hal_base::Bytes;
 use hal_schema::Schema;
 use position_state::{Anchor, Session, Spot, Walk, WalkFault};
 use std::alloc::Global;
-use view_laws::places_differ;
+use view_laws::{places_differ, records_stand_together, roots_are_keyed, roots_rise};
 
 /// The element that a get finds, with its path: GU looks at the whole view, GN behind the position, and GNP at what of
 /// that is below the parent.
@@ -38,6 +38,7 @@ pub(crate) fn got<W: Walk>(
     ensures got { IfOk result (IsGotBy schema.now (W.seen walk.old) session.now call.now) }
     ensures few { is_of_any call.now ≡ true → (W.seen walk.new).looks ≤ (W.seen walk.old).looks + 1 }
     ensures keyed { is_some (keyed_by schema.now call.now) ≡ true → (W.seen walk.new).looks ≤ (W.seen walk.old).looks + 1 }
+    ensures within { IfSome (keyed_path schema.now call.now) (λ key. LooksWithin call.now.ssas (W.seen walk.old) (W.seen walk.new) (λ rows. 2 + rows_under key (plain_view schema.now rows))) }
     ensures looked { LooksOn (IsErrOf result WalkFault.Failed) (W.seen walk.old) (W.seen walk.new) }
 {
     if is_unique(call) {
@@ -65,12 +66,19 @@ fn first_of_all<W: Walk>(
     ensures got { IfOk result (IsGiven schema.now call.now.ssas (W.seen walk.old) (λ view. find (meets schema.now None view call.now.ssas) (on_paths view))) }
     ensures few { length call.now.ssas == 0 ≡ true → (W.seen walk.new).looks ≤ (W.seen walk.old).looks + 1 }
     ensures keyed { is_some (keyed_by schema.now call.now) ≡ true → (W.seen walk.new).looks ≤ (W.seen walk.old).looks + 1 }
+    ensures within { IfSome (keyed_path schema.now call.now) (λ key. LooksWithin call.now.ssas (W.seen walk.old) (W.seen walk.new) (λ rows. 2 + rows_under key (plain_view schema.now rows))) }
     ensures looked { LooksOn (IsErrOf result WalkFault.Failed) (W.seen walk.old) (W.seen walk.new) }
 {
+    places_differ();
+    roots_are_keyed();
+    roots_rise();
     let ssas = call.ssas.as_slice();
-    match keyed_by(schema, call)? {
+    if let Some(key) = keyed_by(schema, call)? {
+        return root_with(alloc, walk, &key);
+    }
+    match keyed_path(schema, call)? {
         None => first_behind(alloc, walk, schema, ssas, &Anchor::Front),
-        Some(key) => root_with(alloc, walk, &key),
+        Some(key) => first_in_record(alloc, walk, schema, ssas, &key),
     }
 }
 
@@ -86,6 +94,52 @@ fn root_with<W: Walk>(alloc: Global, walk: &mut W, key: &Bytes) -> Result<Option
         None => Ok(None),
         Some(spot) => Ok(Some(alone(alloc, spot))),
     }
+}
+
+/// The first element below the root with a key that meets the SSAs. Nothing of other records is looked at.
+fn first_in_record<W: Walk>(
+    alloc: Global,
+    walk: &mut W,
+    schema: &Schema,
+    ssas: &[Ssa],
+    key: &Bytes,
+) -> Result<Option<Met>, WalkFault>
+    requires live { IsTrue (W.seen walk.old).live }
+    requires schema { (W.seen walk.old).schema ≡ schema.now }
+    ensures met { IfOk result (IsGot schema.now (W.seen walk.old) (met_in_record schema.now ssas.now key.now)) }
+    ensures within { LooksWithin ssas.now (W.seen walk.old) (W.seen walk.new) (λ rows. 2 + rows_under key.now (plain_view schema.now rows)) }
+    ensures looked { LooksOn (IsErrOf result WalkFault.Failed) (W.seen walk.old) (W.seen walk.new) }
+{
+    places_differ();
+    roots_are_keyed();
+    records_stand_together();
+    match walk.at_root(key.as_slice())? {
+        None => Ok(None),
+        Some(root) => first_below_root(alloc, walk, schema, ssas, root),
+    }
+}
+
+/// The first element below a root that meets the SSAs.
+fn first_below_root<W: Walk>(
+    alloc: Global,
+    walk: &mut W,
+    schema: &Schema,
+    ssas: &[Ssa],
+    root: Spot,
+) -> Result<Option<Met>, WalkFault>
+    requires live { IsTrue (W.seen walk.old).live }
+    requires schema { (W.seen walk.old).schema ≡ schema.now }
+    requires shown { IsShown schema.now (W.seen walk.old) root }
+    ensures met { IfOk result (IsGot schema.now (W.seen walk.old) (λ view. met_from schema.now view ssas.now (Some 1) (root ∷ []) (first_behind root.at view))) }
+    ensures few { LooksWithin ssas.now (W.seen walk.old) (W.seen walk.new)
+        (λ rows. let view = plain_view schema.now rows in 1 + inside_ahead (Some 1) (from_on view (first_behind root.at view))) }
+    ensures looked { LooksOn (IsErrOf result WalkFault.Failed) (W.seen walk.old) (W.seen walk.new) }
+{
+    places_differ();
+    let next = walk.after(None, &root.at)?;
+    let mut path = Vec::new(alloc);
+    join(&mut path, root)?;
+    first_met(walk, schema, ssas, Some(1), path, next)
 }
 
 /// The first element behind a place that meets the SSAs.

@@ -1,10 +1,10 @@
 // Whether an element meets a list of SSAs, and whether what is below it may.
-ghost use Rattle.std.specs.Prelude.{◌≡◌, ◌↔◌, ◌==◌, ◌&&◌, if◌then◌else◌, false, is_some, Some, ◌∷◌, ◌++◌, [], find, true, None, IfOk, IfSome, IsErrOf, IsTrue, All};
+ghost use Rattle.std.specs.Prelude.{◌≡◌, ◌≤◌, ◌↔◌, ◌==◌, ◌&&◌, if◌then◌else◌, false, is_some, Some, ◌∷◌, ◌++◌, [], find, true, None, IfOk, IfSome, IsErrOf, IsTrue, All};
 ghost use Rattle.std.specs.List.{list_any, last_or};
 ghost use Rattle.std.specs.Option.{ForSome, option_copied, option_map_or};
 ghost use Rattle.call_gets.specs.declared.judged.Verdict.TheVariants.{Meets, Open};
 ghost use Rattle.dli_calls.specs.Meets.{clauses_hold, is_of, later_twins};
-ghost use Rattle.dli_calls.specs.Ssas.{clause_holds};
+ghost use Rattle.dli_calls.specs.Ssas.{asks_last, clause_holds};
 ghost use Rattle.call_gets.specs.Scan.{AreShown, Holds, IsOn, IsShown, IsVerdict, LooksOn, of_ssa, plain_view};
 
 use crate::clauses::clauses_hold;
@@ -37,6 +37,7 @@ pub(crate) fn judge<W: Walk>(
     requires shown { AreShown schema.now (W.seen walk.old) (above.now ++ spot.now ∷ []) None }
     ensures verdict { IfOk result (λ verdict. IfSome (W.seen walk.old).forest
         (λ rows. IsVerdict schema.now (plain_view schema.now rows) ssas.now (above.now ++ spot.now ∷ []) spot.now verdict)) }
+    ensures few { list_any asks_last ssas.now ≡ false → (W.seen walk.new).looks ≤ (W.seen walk.old).looks }
     ensures looked { LooksOn (IsErrOf result WalkFault.Failed) (W.seen walk.old) (W.seen walk.new) }
 {
     let mut all = true;
@@ -87,6 +88,7 @@ fn holds_on<W: Walk>(
     requires shown { AreShown schema.now (W.seen walk.old) (above.now ++ spot.now ∷ []) None }
     ensures on { IfOk result (λ on. IfSome (W.seen walk.old).forest
         (λ rows. IsOn schema.now (plain_view schema.now rows) (above.now ++ spot.now ∷ []) ssa.now on)) }
+    ensures few { asks_last ssa.now ≡ false → (W.seen walk.new).looks ≤ (W.seen walk.old).looks }
     ensures looked { LooksOn (IsErrOf result WalkFault.Failed) (W.seen walk.old) (W.seen walk.new) }
 {
     match of_ssa(schema, ssa, above, spot) {
@@ -143,6 +145,7 @@ fn ssa_holds<W: Walk>(
     requires schema { (W.seen walk.old).schema ≡ schema.now }
     requires shown { IsShown schema.now (W.seen walk.old) spot.now }
     ensures holds { IfOk result (Holds schema.now (W.seen walk.old) ssa.now spot.now) }
+    ensures few { asks_last ssa.now ≡ false → (W.seen walk.new).looks ≤ (W.seen walk.old).looks }
     ensures looked { LooksOn (IsErrOf result WalkFault.Failed) (W.seen walk.old) (W.seen walk.new) }
 {
     if !clauses_hold(schema, spot, ssa.clauses.as_slice())? {

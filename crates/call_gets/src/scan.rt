@@ -1,7 +1,9 @@
 // The first element of a view that meets a list of SSAs, found by looks.
-ghost use Rattle.std.specs.Prelude.{◌≡◌, ◌∷◌, ◌++◌, [], filter, nat_lt, true, IfOk, IfSome, OnOk, IsErrOf, IsTrue, None, Some};
+ghost use Rattle.std.specs.Prelude.{◌≡◌, ◌≤◌, ◌+◌, ◌∷◌, ◌++◌, [], filter, nat_lt, true, false, IfOk, IfSome, OnOk, IsErrOf, IsTrue, None, Some};
+ghost use Rattle.std.specs.List.{list_any};
 ghost use Rattle.std.specs.Option.{ForSome};
-ghost use Rattle.call_gets.specs.Scan.{AreShown, IsFirstMet, IsShown, IsVerdict, LooksOn, Steps, is_inside, plain_view};
+ghost use Rattle.dli_calls.specs.Ssas.{asks_last};
+ghost use Rattle.call_gets.specs.Scan.{AreShown, IsFirstMet, IsNearer, LooksOn, LooksWithin, Steps, from_on, inside_ahead, is_inside, plain_view};
 
 use crate::judged::{Verdict, judge};
 use call_text::Ssa;
@@ -38,6 +40,7 @@ pub(crate) fn first_met<W: Walk>(
     requires schema { (W.seen walk.old).schema ≡ schema.now }
     requires shown { AreShown schema.now (W.seen walk.old) path.items first }
     ensures met { IfOk result (IsFirstMet schema.now (W.seen walk.old) ssas.now top path.items first) }
+    ensures few { LooksWithin ssas.now (W.seen walk.old) (W.seen walk.new) (λ rows. inside_ahead top (from_on (plain_view schema.now rows) first)) }
     ensures looked { LooksOn (IsErrOf result WalkFault.Failed) (W.seen walk.old) (W.seen walk.new) }
 {
     let mut path = path;
@@ -80,6 +83,8 @@ fn move_on<W: Walk>(
     requires shown { AreShown schema.now (W.seen walk.old) path.old.items (Some spot) }
     requires inside { is_inside top spot ≡ true }
     ensures step { IfOk result (Steps schema.now (W.seen walk.old) ssas.now top path.old.items spot path.new.items) }
+    ensures nearer { IfOk result (λ step. IfSome (W.seen walk.old).forest (λ rows. IsNearer top (plain_view schema.now rows) spot step)) }
+    ensures few { list_any asks_last ssas.now ≡ false → (W.seen walk.new).looks ≤ (W.seen walk.old).looks + 1 }
     ensures looked { LooksOn (IsErrOf result WalkFault.Failed) (W.seen walk.old) (W.seen walk.new) }
 {
     places_differ();
@@ -102,7 +107,8 @@ fn leave(path: &mut Vec<Spot>, level: u8)
     path.retain(|above| above.level < level);
 }
 
-fn join(path: &mut Vec<Spot>, spot: Spot) -> Result<(), Memory>
+/// Puts an element behind a path.
+pub(crate) fn join(path: &mut Vec<Spot>, spot: Spot) -> Result<(), Memory>
     ensures { OnOk result (path.new.items ≡ path.old.items ++ spot ∷ []) }
 {
     path.push(spot)?;

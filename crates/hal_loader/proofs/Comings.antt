@@ -1,28 +1,26 @@
 -- A row came: it is the newest child now, and the rest of its path is what it was.
-use Rattle.std.proofs.Common.{◌≡◌, ℕ, ◌+◌, ◌<◌, ◌≤◌, ◌==◌, nat_lt, nat_le, Bool, true, false, not, cond, ◌&&◌, ◌||◌, List, [], ◌∷◌, ◌++◌, take, drop, insert, length, Option, Some, None, ◌⊎◌, inl, inr, refl, sym, ap, subst, ◌∙◌, arith}
-use Rattle.std.specs.Prelude.{filter, find, is_none, is_some}
+use Rattle.std.proofs.Common.{◌≡◌, ℕ, ◌+◌, ◌==◌, nat_lt, nat_le, Bool, true, false, not, cond, ◌&&◌, ◌||◌, List, [], ◌∷◌, ◌++◌, take, drop, insert, Option, Some, None, refl, sym, ap, ◌∙◌, arith}
+use Rattle.std.specs.Prelude.{find, is_none}
 use Rattle.std.specs.List.{list_all, last_or, slice_get, prefix_len}
 use Rattle.std.specs.Option.{option_map, option_map_or}
 use Rattle.std.specs.Ordering.{is_lt, is_le}
-use Rattle.std.proofs.lemmas.Bool.{and_parts, and_from, and_left, and_right, not-true, not_from_false, not_from_true, or_left, or_right, both_ways, eqb-true, eq-eqb, ltb-false, leb-true, le-leb, true≢false}
+use Rattle.std.proofs.lemmas.Bool.{and_parts, and_from, and_right, not-true, not_from_false, or_left, or_right, both_ways, eqb-true, eq-eqb, ltb-false, leb-true, le-leb, true≢false}
 use Rattle.std.proofs.lemmas.List.{drop-drop, take-append-drop}
 use Rattle.hal_base.specs.declared.place.Ilk.{Ilk}
 use Rattle.hal_schema.specs.declared.row.Row.{Row}
 use Rattle.hal_schema.specs.declared.schema.Schema.{Schema}
-use Rattle.hal_schema.specs.declared.schema.SegType.{SegType}
 use Rattle.hal_schema.specs.Forest.{all_pairs, names_apart, twin_cmp}
 use Rattle.hal_schema.specs.Insertion.{is_lower_child, through_last}
 use Rattle.hal_schema.specs.Keys.{key_cmp}
 use Rattle.hal_schema.specs.Row.{same_name, same_parent, is_parent, are_twins, row_named, is_new_name, row_key, row_level}
 use Rattle.hal_schema.specs.SegType.{parent_code}
-use Rattle.hal_schema.proofs.RowNames.{name_is, name_itself, name_from}
-use Rattle.hal_loader.specs.Carrying.{level_kept, IsNewest, IsOnPath, AreOnPath, Carried, is_of_later_type, is_above_key}
+use Rattle.hal_schema.proofs.RowNames.{name_is, name_itself}
+use Rattle.hal_loader.specs.Carrying.{level_kept, IsNewest, AreOnPath, Carried, is_of_later_type, is_above_key}
 use Rattle.hal_loader.specs.Placing.{first_name, goes_by_key, loads_behind, load_place, with_loaded}
-use Rattle.hal_loader.specs.Refusals.{twins_of}
 use Rattle.hal_loader.proofs.Climbs.{Siblings, Climbed}
 use Rattle.hal_loader.proofs.KeyOrder.{up_to_next, up_to_itself}
 use Rattle.hal_loader.proofs.Lists.{all_inserted, all_weaker, all_both, all_dropped, find_inserted, find_inserted_new, filter_inserted, last_inserted, none_behind}
-use Rattle.hal_loader.proofs.Newest.{same_parent_is, same_parent_itself, twin_is, either, from_if, unless}
+use Rattle.hal_loader.proofs.Newest.{same_parent_itself, twin_is, either, from_if, unless}
 
 -- ---- names
 
@@ -202,7 +200,7 @@ parent_stays rows k new None h = refl
 parent_stays rows k new (Some m) h =
     some_stays (λ (r : Row). same_name r.name m) (take k rows) new (drop k rows) (ap (λ (l : List Row). not (is_none (find (λ (r : Row). same_name r.name m) l))) (take-append-drop k rows) ∙ h)
 
-first_is_there : (schema : Schema) (rows above : List Row) (o : Option Ilk) → o ≡ first_name above → AreOnPath schema rows above → option_map_or (λ name. not (is_new_name rows name)) o true ≡ true
+pub first_is_there : (schema : Schema) (rows above : List Row) (o : Option Ilk) → o ≡ first_name above → AreOnPath schema rows above → option_map_or (λ name. not (is_new_name rows name)) o true ≡ true
 first_is_there schema rows [] o e on = ap (λ (o : Option Ilk). option_map_or (λ name. not (is_new_name rows name)) o true) e
 first_is_there schema rows (p ∷ rest) o e on =
     ap (λ (o : Option Ilk). option_map_or (λ name. not (is_new_name rows name)) o true) e ∙ ap (λ (r : Option Row). not (is_none r)) on.0.newest.found

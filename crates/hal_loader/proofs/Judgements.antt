@@ -1,7 +1,7 @@
 -- The table of refusals, by the rows and by what is kept of them.
 use Rattle.std.proofs.Common.{◌≡◌, ℕ, ◌==◌, nat_lt, Bool, true, false, not, cond, ◌&&◌, ◌||◌, List, [], ◌∷◌, ◌++◌, Option, Some, None, Err, refl, sym, ap, ◌∙◌}
 use Rattle.std.specs.Prelude.{codes, is_none, is_some, IfSome, if◌then◌else◌}
-use Rattle.std.specs.List.{list_all, list_any, slice_get}
+use Rattle.std.specs.List.{list_all, list_any}
 use Rattle.std.specs.Option.{option_map, option_map_or, option_and_then}
 use Rattle.std.proofs.lemmas.Bool.{eqb-true}
 use Rattle.hal_base.specs.declared.place.Ilk.{Ilk}
@@ -14,11 +14,11 @@ use Rattle.hal_schema.specs.Forest.{has_unique_key, is_selected}
 use Rattle.hal_schema.specs.Insertion.{has_free_key, enters_freely}
 use Rattle.hal_schema.specs.Roots.{partition_of}
 use Rattle.hal_schema.specs.Row.{row_key}
-use Rattle.hal_schema.specs.SegType.{parent_code, type_of}
+use Rattle.hal_schema.specs.SegType.{parent_code}
 use Rattle.hal_loader.specs.Carrying.{level_kept, is_of_later_type, is_above_key, has_same_key}
 use Rattle.hal_loader.specs.Judging.{level_refusals, root_refusals, kept_refusals, JudgesBy}
 use Rattle.hal_loader.specs.Placing.{first_name, goes_by_key, load_need}
-use Rattle.hal_loader.specs.Refusals.{first_that_holds, is_later_sibling, is_below_last, row_refusals}
+use Rattle.hal_loader.specs.Refusals.{first_that_holds, is_later_sibling, is_below_last}
 use Rattle.hal_loader.specs.Taker.{has_root}
 use Rattle.hal_loader.specs.declared.fault.RowFault.TheVariants as row
 use Rattle.hal_loader.specs.declared.path.Level.{Level}
@@ -104,7 +104,7 @@ table false true false false c u a t hr part rest p q o =
     plain c u a t ((not (is_some part), codes "FM") ∷ rest) ((is_none part, codes "FM") ∷ rest) (p refl refl) (q refl refl) (selected part rest)
 table false false false false c u a t hr part rest p q o = plain c u a t rest rest (p refl refl) (q refl refl) refl
 
-unique_root : (schema : Schema) → IsKept schema → has_unique_key schema.types 1 ≡ true
+pub unique_root : (schema : Schema) → IsKept schema → has_unique_key schema.types 1 ≡ true
 unique_root schema k =
     let t = k.root_key.0 in
     let f = k.root_key.1 in
@@ -152,11 +152,11 @@ pub record Passed (schema : Schema) (rows : List Row) (below : Option Row) (new 
   pub free : has_free_key schema rows new ≡ true
   pub chosen : is_selected schema new ≡ true
 
-not_first : (c : Bool) (code : List ℕ) (rest : List (Bool × List ℕ)) → first_that_holds ((c, code) ∷ rest) ≡ None → c ≡ false
+pub not_first : (c : Bool) (code : List ℕ) (rest : List (Bool × List ℕ)) → first_that_holds ((c, code) ∷ rest) ≡ None → c ≡ false
 not_first true code rest e = cc e
 not_first false code rest e = refl
 
-then_rest : (c : Bool) (code : List ℕ) (rest : List (Bool × List ℕ)) → first_that_holds ((c, code) ∷ rest) ≡ None → first_that_holds rest ≡ None
+pub then_rest : (c : Bool) (code : List ℕ) (rest : List (Bool × List ℕ)) → first_that_holds ((c, code) ∷ rest) ≡ None → first_that_holds rest ≡ None
 then_rest true code rest e = cc e
 then_rest false code rest e = e
 
@@ -180,7 +180,7 @@ five a b c d e ca cb cd ce cf rest h =
     let h4 = then_rest d ce ((e, cf) ∷ rest) h3 in
     record { first = not_first a ca t1 h; second = not_first b cb t2 h1; third = not_first c cd t3 h2; fourth = not_first d ce ((e, cf) ∷ rest) h3; fifth = not_first e cf rest h4 }
 
-is_not : (b : Bool) → not b ≡ false → b ≡ true
+pub is_not : (b : Bool) → not b ≡ false → b ≡ true
 is_not true e = refl
 is_not false e = cc e
 

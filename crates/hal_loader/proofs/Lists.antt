@@ -1,9 +1,9 @@
 -- Lists into which one item is inserted, and where the last item that passes a test stands.
-use Rattle.std.proofs.Common.{◌≡◌, ◌⊎◌, inl, inr, ℕ, suc, ◌+◌, ◌-◌, ◌≤◌, Bool, true, false, not, cond, ◌==◌, List, [], ◌∷◌, ◌++◌, length, take, drop, reverse, insert, Option, Some, None, refl, sym, ap, subst, ◌∙◌, arith}
+use Rattle.std.proofs.Common.{◌≡◌, ◌⊎◌, inl, inr, ℕ, suc, ◌+◌, ◌-◌, Bool, true, false, not, cond, ◌==◌, List, [], ◌∷◌, ◌++◌, length, take, drop, reverse, insert, Option, Some, None, refl, sym, ap, subst, ◌∙◌, arith}
 use Rattle.std.specs.Prelude.{filter, find, is_none}
 use Rattle.std.specs.List.{list_all, prefix_len, suffix_len, last_or}
-use Rattle.std.proofs.lemmas.Bool.{and_parts, and_from, eq-eqb, ne_eqb, not_from_false, not-true, cases_eq}
-use Rattle.std.proofs.lemmas.List.{length-reverse, take-append-drop, drop-drop}
+use Rattle.std.proofs.lemmas.Bool.{and_parts, and_from, eq-eqb, ne_eqb, not-true, cases_eq}
+use Rattle.std.proofs.lemmas.List.{length-reverse, take-append-drop}
 use Rattle.std.proofs.lemmas.Grind.{reverse_onto}
 use Rattle.std.proofs.lemmas.List.Folds.{list_all-append, prefix_len-append}
 use Rattle.std.proofs.lemmas.List.Sums.{suffix_len-le-length}
@@ -120,7 +120,7 @@ last_inserted p xs k x passes none = last_new p None (take k xs) x (drop k xs) p
 
 -- ---- behind the last that passes
 
-suffix_cons : (q : Row → Bool) (x : Row) (xs : List Row) → suffix_len q (x ∷ xs) ≡ cond (suffix_len q xs == length xs) (length xs + cond (q x) 1 0) (suffix_len q xs)
+pub suffix_cons : (q : Row → Bool) (x : Row) (xs : List Row) → suffix_len q (x ∷ xs) ≡ cond (suffix_len q xs == length xs) (length xs + cond (q x) 1 0) (suffix_len q xs)
 suffix_cons q x xs =
     ap (prefix_len q) (reverse_onto xs x []) ∙ prefix_len-append q (reverse xs) (x ∷ [])
     ∙ ap (λ n. cond (prefix_len q (reverse xs) == n) (n + cond (q x) 1 0) (prefix_len q (reverse xs))) (length-reverse xs)

@@ -1,5 +1,5 @@
 -- Records loaded so far, and one more.
-use Rattle.std.proofs.Common.{◌≡◌, ℕ, ◌+◌, ◌≤◌, true, false, List, [], ◌∷◌, ◌++◌, length, map, Option, Some, None, Result, Ok, Err, refl, sym, ap, subst, ◌∙◌, arith}
+use Rattle.std.proofs.Common.{◌≡◌, ℕ, ◌+◌, List, [], ◌∷◌, ◌++◌, length, Option, Some, None, Ok, Err, refl, sym, ap, subst, ◌∙◌}
 use Rattle.std.specs.Prelude.{IfSome, MatchOption, ⊤}
 use Rattle.std.proofs.lemmas.List.{append_assoc}
 use Rattle.hal_schema.specs.declared.row.Row.{Row}
@@ -7,7 +7,7 @@ use Rattle.hal_schema.specs.declared.schema.Schema.{Schema}
 use Rattle.hal_loader.specs.Carrying.{StandsAs, Stands, RowDid, HasLoaded, Progress}
 use Rattle.hal_loader.specs.Ending.{at_row}
 use Rattle.hal_loader.specs.Judging.{IsJudgement}
-use Rattle.hal_loader.specs.Loading.{Taken, Loads, AreLoaded, begin, stands_after, stands_after_all, LoadedAll, RefusedAt, LoadsText}
+use Rattle.hal_loader.specs.Loading.{Taken, Loads, AreLoaded, begin, stands_after, stands_after_all, LoadedAll, LoadsText}
 use Rattle.hal_loader.specs.Refusals.{Standing}
 use Rattle.hal_loader.specs.Taker.{TakerView}
 use Rattle.hal_loader.specs.Text.{records_of}

@@ -1,26 +1,26 @@
 -- The newest child tells of all its siblings: so what is found by what is kept is what the rows say.
-use Rattle.std.proofs.Common.{◌≡◌, ℕ, ◌<◌, ◌≤◌, ◌==◌, nat_lt, nat_le, Bool, true, false, not, cond, ◌&&◌, ◌||◌, List, [], ◌∷◌, ◌++◌, Option, Some, None, ◌⊎◌, inl, inr, refl, sym, ap, subst, ◌∙◌, arith}
-use Rattle.std.specs.Prelude.{filter, is_none, is_some}
-use Rattle.std.specs.Cmp.{IsTotalOrder, nat_cmp_total, tied_itself}
-use Rattle.std.specs.List.{list_all, list_any, last_or, slice_get}
+use Rattle.std.proofs.Common.{◌≡◌, ℕ, ◌==◌, nat_lt, nat_le, Bool, true, false, not, cond, ◌&&◌, ◌||◌, List, [], ◌∷◌, Option, Some, None, refl, sym, ap, subst, ◌∙◌, arith}
+use Rattle.std.specs.Prelude.{filter}
+use Rattle.std.specs.Cmp.{nat_cmp_total, tied_itself}
+use Rattle.std.specs.List.{list_all, list_any, last_or}
 use Rattle.std.specs.Option.{option_map, option_map_or}
 use Rattle.std.specs.Ordering.{ordering_then, nat_cmp, is_lt, is_le, is_eq}
 use Rattle.std.specs.declared.cmp.Ordering.{Ordering}
 use Rattle.std.specs.declared.cmp.Ordering.TheVariants.{Less, Equal, Greater}
 use Rattle.std.specs.Str.{bytes_eq}
-use Rattle.std.proofs.lemmas.Bool.{and_parts, and_from, and_left, and_right, not-true, not_from_false, or_cases, both_ways, eqb-true, eq-eqb, ltb-true, ltb-false, leb-true, le-leb, true≢false, cases_Bool}
+use Rattle.std.proofs.lemmas.Bool.{and_parts, and_from, and_left, and_right, not-true, not_from_false, both_ways, eqb-true, eq-eqb, ltb-true, ltb-false, leb-true, true≢false}
 use Rattle.std.proofs.lemmas.Map.Text.{is_eq-slice_cmp}
 use Rattle.hal_base.specs.declared.place.Ilk.{Ilk}
 use Rattle.hal_schema.specs.declared.row.Row.{Row}
 use Rattle.hal_schema.specs.declared.schema.Schema.{Schema}
 use Rattle.hal_schema.specs.declared.schema.SegType.{SegType}
-use Rattle.hal_schema.specs.Forest.{has_unique_key, is_selected, twin_cmp}
+use Rattle.hal_schema.specs.Forest.{has_unique_key, twin_cmp}
 use Rattle.hal_schema.specs.Insertion.{has_free_key}
 use Rattle.hal_schema.specs.Keys.{key_cmp}
-use Rattle.hal_schema.specs.Roots.{partition_of, partition_place, anchor_place, root_cmp}
-use Rattle.hal_schema.specs.Row.{same_name, same_parent, are_twins, row_named, row_key}
+use Rattle.hal_schema.specs.Roots.{partition_place, anchor_place, root_cmp}
+use Rattle.hal_schema.specs.Row.{same_name, same_parent, are_twins, row_key}
 use Rattle.hal_schema.proofs.RowNames.{name_is, name_itself}
-use Rattle.hal_loader.specs.Carrying.{level_kept, IsNewest, IsOnPath, is_of_later_type, is_above_key, has_same_key}
+use Rattle.hal_loader.specs.Carrying.{level_kept, IsNewest, is_of_later_type, is_above_key, has_same_key}
 use Rattle.hal_loader.specs.Placing.{first_name, goes_by_key}
 use Rattle.hal_loader.specs.Refusals.{is_later_sibling, twins_of, is_below_last}
 use Rattle.hal_loader.specs.Taker.{has_root}
@@ -30,7 +30,7 @@ use Rattle.hal_loader.proofs.Lists.{all_weaker, all_both, found_all, filter_none
 
 -- ---- tests of lists
 
-any_none : {X : Type 0} (t : X → Bool) (xs : List X) → list_all (λ x. not (t x)) xs ≡ true → list_any t xs ≡ false
+pub any_none : {X : Type 0} (t : X → Bool) (xs : List X) → list_all (λ x. not (t x)) xs ≡ true → list_any t xs ≡ false
 any_none t [] h = refl
 any_none t (x ∷ xs) h =
     let a = and_parts (not (t x)) (list_all (λ x. not (t x)) xs) h in

@@ -1,5 +1,5 @@
 -- A row is judged by what is kept, and taken: what that is on the rows.
-use Rattle.std.proofs.Common.{◌≡◌, ℕ, ◌+◌, ◌<◌, ◌≤◌, ◌==◌, nat_lt, Bool, true, false, not, cond, ◌&&◌, ◌||◌, List, [], ◌∷◌, ◌++◌, map, length, Option, Some, None, Result, Ok, Err, refl, sym, ap, subst, ◌∙◌, arith}
+use Rattle.std.proofs.Common.{◌≡◌, ℕ, ◌+◌, ◌<◌, ◌≤◌, ◌==◌, nat_lt, Bool, true, false, not, cond, ◌&&◌, List, [], ◌∷◌, map, length, Option, Some, None, Result, Ok, Err, refl, sym, ap, subst, ◌∙◌, arith}
 use Rattle.std.specs.Prelude.{codes, find, is_none, is_some, IfSome, IsTrue, MatchOption, unwrap_or, ⊤}
 use Rattle.std.specs.List.{list_all, slice_get}
 use Rattle.std.specs.Option.{option_map, option_map_or, option_and_then}
@@ -11,12 +11,11 @@ use Rattle.hal_schema.specs.declared.schema.SegType.{SegType}
 use Rattle.hal_schema.specs.Facts.{IsKept}
 use Rattle.hal_schema.specs.Forest.{has_length, is_selected}
 use Rattle.hal_schema.specs.Insertion.{has_free_key, has_parent_in, enters_freely}
-use Rattle.hal_schema.specs.Row.{is_parent, same_name, row_key, row_named}
+use Rattle.hal_schema.specs.Row.{is_parent, row_key}
 use Rattle.hal_schema.specs.SegType.{parent_code, is_parent_code, type_of}
-use Rattle.hal_loader.specs.Carrying.{level_kept, code_kept, passed_on, AreOnPath, StandsAs, Stands, RowDid, RowPlaced, Places, row_at}
+use Rattle.hal_loader.specs.Carrying.{level_kept, code_kept, passed_on, AreOnPath, StandsAs, Stands, RowDid, RowPlaced, row_at}
 use Rattle.hal_loader.specs.Judging.{kept_refusals, JudgesBy, IsJudgement, as_row_fault}
-use Rattle.hal_loader.specs.Loading.{Taken, stands_after}
-use Rattle.hal_loader.specs.Placing.{coming, with_name, with_loaded, path_from, parent_path, first_name, goes_by_key, is_of, load_need}
+use Rattle.hal_loader.specs.Placing.{coming, with_name, path_from, parent_path, first_name, goes_by_key, is_of, load_need}
 use Rattle.hal_loader.specs.Refusals.{Standing, first_that_holds, text_refusals, row_refusals, row_said, may_be_taken, is_below_last}
 use Rattle.hal_loader.specs.Saying.{IsSaid}
 use Rattle.hal_loader.specs.Text.{code_said, content_said}
@@ -29,7 +28,7 @@ use Rattle.hal_loader.specs.declared.taker.TakeFault.{TakeFault}
 use Rattle.hal_loader.specs.declared.taker.TakeFault.TheVariants as take
 use Rattle.hal_loader.proofs.Climbs.{row_code, path_map, passed_map, first_kept, Climbed, climbed, first_is_of, none_above}
 use Rattle.hal_loader.proofs.Comings.{came}
-use Rattle.hal_loader.proofs.Judgements.{behind, first_some, first_none, tables_agree, Passed, passed}
+use Rattle.hal_loader.proofs.Judgements.{behind, first_some, first_none, tables_agree, passed}
 
 -- the way up to a row's parent, on what is kept
 pub record Way (schema : Schema) (levels : List Level) (code : ℕ) (content : List ℕ) (below : Option Level) (above : List Level) (parent : Option Ilk) (key : List ℕ) : Type 0 where
@@ -66,11 +65,11 @@ on_rows schema view levels at code content below above parent key s w =
 
 -- ---- roots and parents
 
-root_alone : (schema : Schema) (at : Standing) (code : ℕ) → IsKept schema → code ≡ 1 → first_name (rows_above schema at code) ≡ None
+pub root_alone : (schema : Schema) (at : Standing) (code : ℕ) → IsKept schema → code ≡ 1 → first_name (rows_above schema at code) ≡ None
 root_alone schema at code k one =
     ap (λ (c : ℕ). first_name (rows_above schema at c)) one ∙ ap (λ (o : Option ℕ). first_name (path_from row_code o at.path)) k.root ∙ ap first_name (none_above at.path)
 
-parent_kind : (wanted : Option ℕ) (path : List Row) → (is_some wanted && is_none (first_name (path_from row_code wanted path))) ≡ false
+pub parent_kind : (wanted : Option ℕ) (path : List Row) → (is_some wanted && is_none (first_name (path_from row_code wanted path))) ≡ false
     → wanted ≡ option_map (λ (r : Row). r.code) (slice_get (path_from row_code wanted path) 0)
 parent_kind None path e = sym (ap (λ (l : List Row). option_map (λ (r : Row). r.code) (slice_get l 0)) (none_above path))
 parent_kind (Some c) path e = by (path_from row_code (Some c) path) refl e
@@ -80,7 +79,7 @@ parent_kind (Some c) path e = by (path_from row_code (Some c) path) refl e
     by (h ∷ rest) f g = ap (λ (n : ℕ). Some n) (eqb-true c h.code (first_is_of (Some c) path h rest f))
 
 -- a parent stands among the rows
-has_parent : (schema : Schema) (rows path : List Row) (code : ℕ) (content : List ℕ) → IsKept schema → AreOnPath schema rows (path_from row_code (parent_code schema.types code) path)
+pub has_parent : (schema : Schema) (rows path : List Row) (code : ℕ) (content : List ℕ) → IsKept schema → AreOnPath schema rows (path_from row_code (parent_code schema.types code) path)
     → has_length schema.types (coming None code content) ≡ true → (code ≡ 1 → first_name (path_from row_code (parent_code schema.types code) path) ≡ None)
     → (is_some (parent_code schema.types code) && is_none (first_name (path_from row_code (parent_code schema.types code) path))) ≡ false
     → has_parent_in schema.types rows (coming (first_name (path_from row_code (parent_code schema.types code) path)) code content) ≡ true
@@ -280,7 +279,7 @@ placed_err schema old mid new levels after at code content below above parent ke
 
 -- ---- what a record says is the row that stands
 
-said_is : (types : List SegType) (path : List Row) (fields : List (List ℕ)) (code : ℕ) (content : List ℕ) → code_said types fields ≡ Some code → content_said types fields ≡ Some content
+pub said_is : (types : List SegType) (path : List Row) (fields : List (List ℕ)) (code : ℕ) (content : List ℕ) → code_said types fields ≡ Some code → content_said types fields ≡ Some content
     → row_said types path fields ≡ row_at types path code content
 said_is types path fields code content e f =
     ap (λ (o : Option ℕ). coming (first_name (parent_path types path (unwrap_or o 0))) (unwrap_or o 0) (unwrap_or (content_said types fields) [])) e

@@ -1,6 +1,7 @@
 pub mod Carrying
 pub mod Ending
 pub mod Judging
+pub mod Laws
 pub mod Loading
 pub mod Placing
 pub mod Refusals

@@ -1,5 +1,5 @@
 -- Where a load row goes, and what it needs: below the last row of its parent type on the path, behind all its twins.
-use Rattle.std.specs.Prelude.{ℕ, ◌+◌, ◌==◌, nat_lt, Bool, true, false, not, ◌&&◌, ◌||◌, List, [], ◌∷◌, drop, insert, length, Option, None, Some, option_map, option_and_then, if◌then◌else◌}
+use Rattle.std.specs.Prelude.{ℕ, ◌+◌, ◌==◌, nat_lt, Bool, false, not, ◌&&◌, ◌||◌, List, [], ◌∷◌, drop, insert, length, Option, option_map, option_and_then, if◌then◌else◌}
 use Rattle.std.specs.List.{prefix_len, slice_get}
 use Rattle.std.specs.Option.{option_map_or}
 use Rattle.std.specs.Ordering.{is_lt}

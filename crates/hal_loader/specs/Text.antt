@@ -1,6 +1,6 @@
 -- What a text of load rows says. The text is CSV without a header, as the kit's reader of records has it with its own
 -- settings; each record has three fields: segment, form and value.
-use Rattle.std.specs.Prelude.{ℕ, ◌+◌, ◌-◌, ◌==◌, nat_le, not, Bool, ◌&&◌, List, [], ◌∷◌, ◌++◌, length, map, position, replicate, codes, Option, None, Some, unwrap_or, option_map, option_and_then, is_none, Result, Ok, Err, if◌then◌else◌}
+use Rattle.std.specs.Prelude.{ℕ, ◌+◌, ◌-◌, nat_le, ◌&&◌, List, [], ◌++◌, length, map, position, replicate, codes, Option, None, Some, unwrap_or, option_map, option_and_then, Result, Ok, Err, if◌then◌else◌}
 use Rattle.std.specs.List.{list_all}
 use Rattle.std.specs.Str.{bytes_eq}
 use Rattle.csv.specs.Reading.{records, default_config, strip_bom}

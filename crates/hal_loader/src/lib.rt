@@ -9,14 +9,17 @@
 //! - `said`: what a record says by itself;
 //! - `path`: what is kept of the rows before; `twins`: what the newest sibling tells of a row;
 //! - `fault`: why a row is refused;
-//! - `unload`: a row as a record.
+//! - `unload`: a row as a record;
+//! - `laws`: what a load keeps, and what unloaded rows say.
 //!
 //! `specs/Text.antt` has what a text says, `specs/Placing.antt` where a row goes, `specs/Refusals.antt` the table of
-//! refusals, `specs/Loading.antt` what a load does, `specs/Taker.antt` what is seen of a taker, and `specs/Unloading.antt`
-//! the text of a row. `specs/Carrying.antt` has words of private functions: what is kept on the way.
+//! refusals, `specs/Loading.antt` what a load does, `specs/Taker.antt` what is seen of a taker, `specs/Unloading.antt`
+//! the text of a row; `specs/Laws.antt` has the laws. `specs/Carrying.antt` has words of private functions: what is kept on
+//! the way.
 #![tactic(auto)]
 
 mod fault;
+mod laws;
 mod path;
 mod records;
 mod row;
@@ -25,6 +28,10 @@ mod taker;
 mod twins;
 mod unload;
 
+pub use laws::{
+    loading_keeps, taking_keeps, unloaded_rows_are_said, unloaded_rows_come_back,
+    unloaded_rows_load_again,
+};
 pub use records::{LoadFault, load};
 pub use taker::{RowTaker, TakeFault};
 pub use unload::unload_row;

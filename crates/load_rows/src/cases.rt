@@ -4,7 +4,7 @@ ghost use Rattle.std.specs.Prelude.{◌≡◌, IsTrue, IfOk};
 use crate::ListTaker;
 use hal_base::{Bytes, Memory};
 use hal_loader::{LoadFault, load, unload_row};
-use hal_schema::Schema;
+use hal_schema::{Row, Schema};
 use std::alloc::Global;
 
 /// A text that is loaded, how many rows it loads or the first one that breaks a rule, the code of that rule (empty where
@@ -73,24 +73,16 @@ fn is_answer(answer: Result<u32, LoadFault>, row: u32, code: &str) -> bool
 /// The text of all rows.
 fn unloaded(alloc: Global, schema: &Schema, taker: &ListTaker) -> Result<Bytes, Memory> {
     let mut text = Bytes::new(alloc);
-    for place in 0..taker.len() {
-        append_row(&mut text, alloc, schema, taker, place)?;
+    for row in taker.rows() {
+        append_row(&mut text, alloc, schema, row)?;
     }
     Ok(text)
 }
 
-fn append_row(
-    text: &mut Bytes,
-    alloc: Global,
-    schema: &Schema,
-    taker: &ListTaker,
-    place: usize,
-) -> Result<(), Memory> {
-    if let Some(row) = taker.row(place) {
-        if row.code > 0 && row.code as usize <= schema.types.len() {
-            let line = unload_row(alloc, schema, row)?;
-            text.append(line.as_slice())?;
-        }
+fn append_row(text: &mut Bytes, alloc: Global, schema: &Schema, row: &Row) -> Result<(), Memory> {
+    if row.code > 0 && row.code as usize <= schema.types.len() {
+        let line = unload_row(alloc, schema, row)?;
+        text.append(line.as_slice())?;
     }
     Ok(())
 }
@@ -101,5 +93,5 @@ pub fn refuses_a_second_load(alloc: Global, schema: &Schema) -> Result<bool, Mem
     let first = load(alloc, schema, b"R,T,001aa\n", &mut taker);
     let second = load(alloc, schema, b"R,T,002bb\n", &mut taker);
     let is_refused = matches!(second, Err(LoadFault::NotEmpty));
-    Ok(is_answer(first, 1, "") && is_refused && taker.len() == 1)
+    Ok(is_answer(first, 1, "") && is_refused && taker.rows().len() == 1)
 }

@@ -6,6 +6,12 @@ pub mod Types
 pub mod Opening
 pub mod Frames
 pub mod Replacing
+pub mod Storing
+pub mod Joining
+pub mod Rooting
+pub mod Rooted
+pub mod RootPut
+pub mod Inserting
 pub mod CellFrames
 pub mod Descending
 pub mod Passing

@@ -12,7 +12,7 @@ use Rattle.record_walk.specs.Spans.{ReplacedContentIsListed}
 use Rattle.record_tree.specs.declared.records.Records.{Records}
 use Rattle.record_tree.specs.Sides.{root_rows}
 use Rattle.record_tree.specs.Standing.{StandsForRecords, HoldsRow, cells_seen, rows_seen}
-use Rattle.record_tree.specs.Changing.{KeepsKey}
+use Rattle.record_tree.specs.Placing.{KeepsKey}
 use Rattle.record_tree.specs.Changing.{Replaces}
 use Rattle.record_tree.proofs.Leading.{homes, records_of, read_of}
 use Rattle.record_tree.proofs.RootRows.{Alike}

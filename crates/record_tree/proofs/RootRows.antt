@@ -35,7 +35,7 @@ use Rattle.record_tree.proofs.Leading.{led, homes}
 
 -- ---- rows that are found
 
-found_row : (test : List ℕ → Bool) (rows : List Row) → find (λ (r : RootRow). test r.key) (map root_row rows) ≡ option_map root_row (find (λ (row : Row). test (row.0)) rows)
+pub found_row : (test : List ℕ → Bool) (rows : List Row) → find (λ (r : RootRow). test r.key) (map root_row rows) ≡ option_map root_row (find (λ (row : Row). test (row.0)) rows)
 found_row test [] = refl
 found_row test (row ∷ rows) = by (test (row.0)) (found_row test rows)
   where
@@ -95,7 +95,7 @@ in_row cells firsts trees k lt = record {
   row = λ place e. let same : k ≡ place = cc in subst (λ (n : ℕ). n < length firsts) same lt;
 }
 
-length_homes : (rows : List RootRow) → length (homes rows) ≡ length rows
+pub length_homes : (rows : List RootRow) → length (homes rows) ≡ length rows
 length_homes [] = refl
 length_homes (row ∷ rows) = ap suc (length_homes rows)
 

@@ -2,7 +2,7 @@
 ghost use Rattle.std.specs.Prelude.{◌≡◌, OnOk, OnErr, IsErrOf, IsTrue};
 ghost use Rattle.hal_base.specs.ShelfCalls.{SameShelf};
 ghost use Rattle.record_tree.specs.Changing.{ChangesSide, Replaces};
-ghost use Rattle.record_tree.specs.Changing.{KeepsKey};
+ghost use Rattle.record_tree.specs.Placing.{KeepsKey};
 ghost use Rattle.record_tree.specs.Standing.{StandsForRecords, HoldsRow};
 
 use crate::Records;

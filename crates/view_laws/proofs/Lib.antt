@@ -1,1 +1,4 @@
+mod Going
 mod Places
+mod Rising
+mod Roots

@@ -1,4 +1,4 @@
-use Rattle.std.proofs.Common.{◌≡◌, ℕ, List, Option, sym, ap, ◌∙◌, arith}
+use Rattle.std.proofs.Common.{◌≡◌, ℕ, ◌+◌, ◌≤◌, List, Option, sym, ap, ◌∙◌, arith}
 use Rattle.std.specs.Prelude.{IfSome}
 use Rattle.std.specs.Option.{option_map}
 use Rattle.hal_schema.specs.declared.row.Row.{Row}
@@ -6,11 +6,13 @@ use Rattle.dli_calls.specs.declared.decision.Decision.{Decision}
 use Rattle.dli_calls.specs.Decided.{decision_of, found}
 use Rattle.dli_calls.specs.Gets.{got}
 use Rattle.call_gets.specs.declared.scan.Met.{Met}
-use Rattle.call_gets.specs.Scan.{on_its_path}
+use Rattle.call_gets.specs.Keyed.{keyed_path, rows_under}
+use Rattle.call_gets.specs.Scan.{LooksWithin, on_its_path, plain_view}
 use Rattle.call_gets.specs.Shown.{given}
 use Rattle.call_gets.proofs.Deciding.{only_get, decided_text, decided_content, decided_high, decided_none, decided_found}
 use Rattle.call_gets.proofs.Finding.{if_ok}
 use Rattle.call_gets.proofs.ByKey.{keyed_unique}
+use Rattle.call_gets.proofs.ByRecord.{path_is_unique, within_few}
 use Rattle.call_gets.proofs.Giving.{given_none, given_some, found_alike}
 use Rattle.call_gets.proofs.Looking.{where_told, told_at}
 use Rattle.call_gets.proofs.answer.decide_get.Goals as goal
@@ -84,3 +86,33 @@ returns-in_ok-refused-in-None-clause-keyed g c = λ e. c.got.ensures.keyed e
 
 pub returns-in-Some-2-clause-keyed : goal.returns-in-Some-2-clause-keyed
 returns-in-Some-2-clause-keyed g c = λ e. omega (arith, c.got.ensures.keyed e, c.found.ensures.unique (keyed_unique c.args.schema.now c.args.call.now e))
+
+-- a get that goes on below the root of a key looks at one record
+
+pub returns-in_ok-refused-in-None-clause-within : goal.returns-in_ok-refused-in-None-clause-within
+returns-in_ok-refused-in-None-clause-within g c = c.got.ensures.within
+
+pub returns-in-Some-2-clause-within : goal.returns-in-Some-2-clause-within
+returns-in-Some-2-clause-within g c =
+    let a = g.W.Walk.seen c.args.walk.now in
+    let b = g.W.Walk.seen c.got.new.walk in
+    let new = g.W.Walk.seen c.found.new.walk in
+    let schema = c.args.schema.now in
+    let call = c.args.call.now in
+    where_told (keyed_path schema call) (λ (key : List ℕ). LooksWithin call.ssas a new (λ rows. 2 + rows_under key (plain_view schema rows)))
+    (λ key e h. where_told a.forest (λ (rows : List Row). new.looks ≤ a.looks + (2 + rows_under key (plain_view schema rows)))
+    (λ rows k. omega (
+      arith,
+      c.found.ensures.unique (path_is_unique schema call key e),
+      told_at a.forest rows (λ (r : List Row). b.looks ≤ a.looks + (2 + rows_under key (plain_view schema r))) k
+          (told_at (keyed_path schema call) key (λ (key : List ℕ). LooksWithin call.ssas a b (λ rows. 2 + rows_under key (plain_view schema rows))) e c.got.ensures.within h),
+    )))
+
+pub returns-in-Some-clause-within : goal.returns-in-Some-clause-within
+returns-in-Some-clause-within g c = let a = g.W.Walk.seen c.args.walk.now in within_few c.args.schema.now c.args.call.now a a (omega arith)
+
+pub returns-then-is_some-clause-within : goal.returns-then-is_some-clause-within
+returns-then-is_some-clause-within g c = let a = g.W.Walk.seen c.args.walk.now in within_few c.args.schema.now c.args.call.now a a (omega arith)
+
+pub returns-then-branch-clause-within : goal.returns-then-branch-clause-within
+returns-then-branch-clause-within g c = let a = g.W.Walk.seen c.args.walk.now in within_few c.args.schema.now c.args.call.now a a (omega arith)

@@ -1,4 +1,4 @@
-use Rattle.std.proofs.Common.{◌≡◌, ◌==◌, Bool, true, false, ◌&&◌, ◌||◌, length, List, Option, None, refl, sym, ap, subst, ◌∙◌}
+use Rattle.std.proofs.Common.{◌≡◌, ℕ, ◌+◌, ◌==◌, Bool, true, false, ◌&&◌, ◌||◌, length, List, Option, None, refl, sym, ap, subst, ◌∙◌, arith}
 use Rattle.std.specs.Prelude.{find, IfSome}
 use Rattle.std.specs.Option.{option_map}
 use Rattle.std.proofs.lemmas.Bool.{true≢false, and_parts, or_from}
@@ -7,11 +7,13 @@ use Rattle.call_text.specs.declared.line.Ssa.{Ssa}
 use Rattle.position_state.specs.View.{view_of, is_place_of}
 use Rattle.dli_calls.specs.Meets.{meets, on_paths}
 use Rattle.dli_calls.specs.Gets.{got, is_next, is_unique, paths_behind}
-use Rattle.call_gets.specs.Scan.{IsGot, met_below, on_its_path, plain_view}
+use Rattle.call_gets.specs.Keyed.{keyed_path, rows_under}
+use Rattle.call_gets.specs.Scan.{IsGot, LooksWithin, met_below, on_its_path, plain_view}
 use Rattle.call_gets.specs.Shown.{IsGiven, given}
 use Rattle.call_gets.proofs.Looking.{where_told, told_at, stands_at}
 use Rattle.call_gets.proofs.Finding.{if_ok, got_unique, got_next, got_below, got_nowhere}
 use Rattle.call_gets.proofs.ByKey.{not_keyed}
+use Rattle.call_gets.proofs.ByRecord.{none_told, not_path, within_few}
 use Rattle.call_gets.proofs.gets.got.Goals as goal
 
 pub first_behind-requires-clause-there : goal.first_behind-requires-clause-there
@@ -107,3 +109,18 @@ returns-in-Some-clause-keyed g c = λ e. absurd (true≢false (sym e ∙ not_key
 
 pub returns-then-is_unique-clause-keyed : goal.returns-then-is_unique-clause-keyed
 returns-then-is_unique-clause-keyed g c = λ e. c.first_of_all.ensures.keyed e
+
+pub returns-then-is_next-clause-within : goal.returns-then-is_next-clause-within
+returns-then-is_next-clause-within g c =
+    none_told (keyed_path c.args.schema.now c.args.call.now)
+    (λ (key : List ℕ). LooksWithin c.args.call.now.ssas (g.W.Walk.seen c.args.walk.now) (g.W.Walk.seen c.first_behind.new.walk) (λ rows. 2 + rows_under key (plain_view c.args.schema.now rows)))
+    (not_path c.args.schema.now c.args.call.now (sym c.is_unique.ensures ∙ c.if-is_unique.false))
+
+pub returns-in-None-clause-within : goal.returns-in-None-clause-within
+returns-in-None-clause-within g c = let a = g.W.Walk.seen c.args.walk.now in within_few c.args.schema.now c.args.call.now a a (omega arith)
+
+pub returns-in-Some-clause-within : goal.returns-in-Some-clause-within
+returns-in-Some-clause-within g c =
+    none_told (keyed_path c.args.schema.now c.args.call.now)
+    (λ (key : List ℕ). LooksWithin c.args.call.now.ssas (g.W.Walk.seen c.args.walk.now) (g.W.Walk.seen c.first_below.new.walk) (λ rows. 2 + rows_under key (plain_view c.args.schema.now rows)))
+    (not_path c.args.schema.now c.args.call.now (sym c.is_unique.ensures ∙ c.if-is_unique.false))

@@ -1,9 +1,9 @@
-use Rattle.std.proofs.Common.{◌≡◌, ◌+◌, true, List, [], ◌∷◌, ◌++◌, drop, sym, ◌∙◌}
+use Rattle.std.proofs.Common.{◌≡◌, ◌+◌, true, List, [], ◌∷◌, ◌++◌, drop, sym, ◌∙◌, arith}
 use Rattle.hal_schema.specs.declared.row.Row.{Row}
 use Rattle.position_state.specs.declared.walk.WalkFault.TheVariants.{Failed}
 use Rattle.call_gets.specs.declared.judged.Verdict.TheVariants.{Closed}
 use Rattle.call_gets.specs.Scan.{IsOn, IsVerdict, plain_view}
-use Rattle.call_gets.proofs.Judging.{AllSoFar, closed_on, so_far}
+use Rattle.call_gets.proofs.Judging.{AllSoFar, closed_on, none_last, so_far}
 use Rattle.call_gets.proofs.Listing.{left_is}
 use Rattle.call_gets.proofs.Looking.{on_then, on_as, ok_not_err, where_told, told_at, told_after}
 use Rattle.call_gets.proofs.judged.judge.Goals as goal
@@ -32,6 +32,7 @@ loop-ssa-preserved g c =
     record {
       live = c.holds_on.ensures.looked.faults.alive (λ is. ok_not_err c.holds_on.result c.in_ok-on.on Failed c.in_ok-on.was is);
       looked = on_as (on_then i.looked c.holds_on.ensures.looked) (λ is. ok_not_err c.holds_on.result c.in_ok-on.on Failed c.in_ok-on.was is) (λ never. absurd never);
+      few = λ h. omega (arith, i.few h, c.holds_on.ensures.few (none_last c.args.ssas.now c.loop-ssa.ssa-index c.ssa-item.result h c.loop-ssa-test.true c.ssa-item.is));
       all = where_told a.forest (λ (rows : List Row). AllSoFar schema (plain_view schema rows) c.args.ssas.now path c.is_still-all.result (drop (c.loop-ssa.ssa-index + 1) c.args.ssas.now))
           (λ rows e. so_far schema (plain_view schema rows) c.args.ssas.now path c.loop-ssa.all c.is_still-all.result c.ssa-item.result (drop (c.loop-ssa.ssa-index + 1) c.args.ssas.now) (drop c.loop-ssa.ssa-index c.args.ssas.now) c.in_ok-on.on
           (told_at a.forest rows (λ (r : List Row). AllSoFar schema (plain_view schema r) c.args.ssas.now path c.loop-ssa.all (drop c.loop-ssa.ssa-index c.args.ssas.now)) e i.all)
@@ -41,3 +42,13 @@ loop-ssa-preserved g c =
           (λ k. let t : c.is_against.result ≡ true = c.is_against.ensures.1 k in let no : ⊥ = cc (t, c.if-is_against.false) in no)
           c.is_still-all.ensures);
     }
+
+-- without L no SSA looks
+
+pub returns-then-is_against-clause-few : goal.returns-then-is_against-clause-few
+returns-then-is_against-clause-few g c = λ h.
+    omega (arith, c.loop-ssa.invariant.few h, c.holds_on.ensures.few (none_last c.args.ssas.now c.loop-ssa.ssa-index c.ssa-item.result h c.loop-ssa-test.true c.ssa-item.is))
+
+pub returns-in_err-on-clause-few : goal.returns-in_err-on-clause-few
+returns-in_err-on-clause-few g c = λ h.
+    omega (arith, c.loop-ssa.invariant.few h, c.holds_on.ensures.few (none_last c.args.ssas.now c.loop-ssa.ssa-index c.ssa-item.result h c.loop-ssa-test.true c.ssa-item.is))

@@ -1,5 +1,7 @@
-use Rattle.std.specs.Prelude.{IfSome, IsTrue}
-use Rattle.call_gets.specs.Scan.{LooksOn, plain_view}
+use Rattle.std.specs.Prelude.{◌≡◌, ◌+◌, ◌≤◌, false, IfSome, IsTrue}
+use Rattle.std.specs.List.{list_any}
+use Rattle.dli_calls.specs.Ssas.{asks_last}
+use Rattle.call_gets.specs.Scan.{LooksOn, from_on, inside_ahead, plain_view}
 use Rattle.call_gets.proofs.Moving.{Moved}
 use Rattle.call_gets.proofs.scan.first_met.Given as goal
 
@@ -7,5 +9,8 @@ abbrev pub invariant-loop-step : goal.invariant-loop-step
 invariant-loop-step g l = record {
   live : IsTrue (g.W.Walk.seen l.walk).live;
   looked : LooksOn ⊥ (g.W.Walk.seen l.fn.walk) (g.W.Walk.seen l.walk);
+  few : list_any asks_last l.ssas ≡ false
+      → IfSome (g.W.Walk.seen l.fn.walk).forest (λ rows. (g.W.Walk.seen l.walk).looks + inside_ahead l.top (from_on (plain_view l.schema rows) l.next)
+      ≤ (g.W.Walk.seen l.fn.walk).looks + inside_ahead l.top (from_on (plain_view l.schema rows) l.fn.first));
   moved : IfSome (g.W.Walk.seen l.fn.walk).forest (λ rows. Moved l.schema (plain_view l.schema rows) l.ssas l.top l.fn.path.items l.fn.first l.path.items l.next);
 }

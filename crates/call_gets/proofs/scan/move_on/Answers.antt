@@ -6,10 +6,10 @@ use Rattle.position_state.specs.declared.spot.Spot.{Spot}
 use Rattle.position_state.specs.Looks.{past, first_behind}
 use Rattle.call_gets.specs.declared.scan.Step.TheVariants.{GoesOn}
 use Rattle.call_gets.specs.declared.judged.Verdict.{Verdict}
-use Rattle.call_gets.specs.Scan.{IsFound, IsVerdict, IsStep, met_from, plain_view}
+use Rattle.call_gets.specs.Scan.{IsFound, IsNearer, IsVerdict, IsStep, met_from, plain_view}
 use Rattle.call_gets.proofs.Looking.{where_told, told_at, shows_for, stands_at, differ_told}
 use Rattle.call_gets.proofs.Stepping.{place_of_found}
-use Rattle.call_gets.proofs.Moving.{step_open, step_closed}
+use Rattle.call_gets.proofs.Moving.{nearer_closed, nearer_open, step_open, step_closed}
 use Rattle.call_gets.proofs.scan.move_on.Goals as goal
 
 pub judge-requires-clause-shown : goal.judge-requires-clause-shown
@@ -59,3 +59,25 @@ returns-in_ok-join-in-Open-clause-step g c =
     (told_at a.forest rows (λ (r : List Row). IsVerdict schema (plain_view schema r) c.args.ssas.now (c.deref.result.now ++ c.args.spot ∷ []) c.args.spot c.in_ok-judge.field-0) e c.in_ok-judge.ensures.verdict)))
     (shows_for a b schema rows (first_behind c.args.spot.at) c.in_ok-next-in-Open.next c.judge.ensures.looked.schema c.judge.ensures.looked.forest c.requires.schema e c.in_ok-next-in-Open.ensures.shows)
     c.in_ok-join-in-Open.ensures)
+
+-- a step that goes on is nearer to the end
+
+pub returns-in_ok-past-in-Closed-clause-nearer : goal.returns-in_ok-past-in-Closed-clause-nearer
+returns-in_ok-past-in-Closed-clause-nearer g c =
+    let a = g.W.Walk.seen c.args.walk.now in
+    let b = g.W.Walk.seen c.judge.new.walk in
+    let schema = c.args.schema.now in
+    where_told a.forest (λ (rows : List Row). IsNearer c.args.top (plain_view schema rows) c.args.spot (GoesOn c.in_ok-past-in-Closed.field-0))
+    (λ rows e. nearer_closed (plain_view schema rows) c.args.top c.args.spot c.in_ok-past-in-Closed.field-0
+    (differ_told c.places_differ.ensures a schema rows (g.met.W.Walk.keeps_forest c.args.walk.now) c.requires.schema e) c.requires.inside (c.requires.shown rows e).ahead
+    (shows_for a b schema rows (past c.args.spot) c.in_ok-past-in-Closed.field-0 c.judge.ensures.looked.schema c.judge.ensures.looked.forest c.requires.schema e c.in_ok-past-in-Closed.ensures.shows))
+
+pub returns-in_ok-join-in-Open-clause-nearer : goal.returns-in_ok-join-in-Open-clause-nearer
+returns-in_ok-join-in-Open-clause-nearer g c =
+    let a = g.W.Walk.seen c.args.walk.now in
+    let b = g.W.Walk.seen c.judge.new.walk in
+    let schema = c.args.schema.now in
+    where_told a.forest (λ (rows : List Row). IsNearer c.args.top (plain_view schema rows) c.args.spot (GoesOn c.in_ok-next-in-Open.next))
+    (λ rows e. nearer_open (plain_view schema rows) c.args.top c.args.spot c.in_ok-next-in-Open.next
+    (differ_told c.places_differ.ensures a schema rows (g.met.W.Walk.keeps_forest c.args.walk.now) c.requires.schema e) c.requires.inside (c.requires.shown rows e).ahead
+    (shows_for a b schema rows (first_behind c.args.spot.at) c.in_ok-next-in-Open.next c.judge.ensures.looked.schema c.judge.ensures.looked.forest c.requires.schema e c.in_ok-next-in-Open.ensures.shows))

@@ -2,7 +2,7 @@ use Rattle.std.proofs.Common.{List, ℕ, refl, ap, subst}
 use Rattle.free_space.specs.Map.{Alters}
 use Rattle.free_space.specs.SideCalls.{Turns}
 use Rattle.record_walk.specs.Changes.{set_content}
-use Rattle.record_tree.specs.Changing.{KeepsKey}
+use Rattle.record_tree.specs.Placing.{KeepsKey}
 use Rattle.record_tree.specs.Sides.{root_rows}
 use Rattle.record_tree.proofs.Frames.{ok_weaker, either_way, root_pages, changes_cell}
 use Rattle.record_tree.proofs.Replacing.{replaced_list, replaced_stands}

@@ -1,0 +1,4 @@
+pub mod Sessions
+pub mod Steps
+pub mod Lines
+pub mod Laws
