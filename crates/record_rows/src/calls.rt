@@ -5,6 +5,7 @@ use crate::opened;
 use hal_base::{Bytes, PageFault};
 use hal_schema::Schema;
 use memory_shelf::QuietShelf;
+use record_tree::Place;
 use std::alloc::Global;
 
 pub fn root(
@@ -86,4 +87,35 @@ pub fn replace(
     records.replace(shelf, at, content)?;
     let cell = records.cell(shelf, at)?;
     Ok(cell.content.as_slice().last().copied().unwrap_or(0))
+}
+
+pub fn remove(
+    alloc: Global,
+    shelf: &mut QuietShelf,
+    schema: &Schema,
+    place: Place,
+    at: u32,
+) -> Result<(), PageFault>
+    requires some { 0 < length schema.now.parts }
+    requires phidam { schema.now.phdam ≡ false }
+{
+    let Ok(mut records) = opened(alloc, shelf, schema) else {
+        return Err(PageFault::Memory);
+    };
+    records.remove(shelf, place, at)
+}
+
+pub fn retire(
+    alloc: Global,
+    shelf: &mut QuietShelf,
+    schema: &Schema,
+    at: u32,
+) -> Result<(), PageFault>
+    requires some { 0 < length schema.now.parts }
+    requires phidam { schema.now.phdam ≡ false }
+{
+    let Ok(mut records) = opened(alloc, shelf, schema) else {
+        return Err(PageFault::Memory);
+    };
+    records.retire(shelf, at)
 }

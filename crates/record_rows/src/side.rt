@@ -116,6 +116,14 @@ pub fn set_twin(alloc: Global, shelf: &mut QuietShelf, at: u32, to: u32) -> Resu
     side.set_twin(shelf, at, to)
 }
 
+/// Whether the cell at a home is marked as copied, none where no cell stands.
+pub fn mark_at(alloc: Global, shelf: &mut QuietShelf, at: u32) -> Result<Option<bool>, PageFault> {
+    let Ok(side) = SideCells::open(alloc, shelf, FIRST, b"AAA", &SHAPES) else {
+        return Err(PageFault::Memory);
+    };
+    Ok(side.find(shelf, at)?.map(|cell| cell.copied))
+}
+
 /// Puts a root's row into the root set.
 pub fn put_root(
     alloc: Global,

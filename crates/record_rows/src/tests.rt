@@ -1,7 +1,10 @@
-// Roots, dependents and a replaced content, on a side of three levels.
+// Roots, dependents, a replaced content and spans that are cut out, on a side of three levels.
 ghost use Rattle.std.specs.Prelude.{◌≡◌, ◌<◌, ◌≤◌, false, length, IfOk};
 
-use crate::{changes_content, finds_dependents, finds_roots, is_laid_out};
+use crate::{
+    changes_content, cuts_leaf, cuts_middle_twin, cuts_record, finds_dependents, finds_roots,
+    is_laid_out, retires_record,
+};
 use dbd_reader::read_dbd;
 use hal_schema::{RawSchema, Schema};
 use memory_shelf::QuietShelf;
@@ -54,5 +57,25 @@ fn a_content_is_replaced(rt: HostRuntime) -> Result<(), Fail> {
     let schema = schema_of(rt.alloc())?;
     let mut shelf = laid_out(rt.alloc())?;
     assert!(rt; changes_content(rt.alloc(), &mut shelf, &schema));
+    Ok(())
+}
+
+#[test]
+fn spans_are_cut(rt: HostRuntime) -> Result<(), Fail> {
+    let schema = schema_of(rt.alloc())?;
+    let mut shelf = laid_out(rt.alloc())?;
+    assert!(rt; cuts_leaf(rt.alloc(), &mut shelf, &schema));
+    let mut shelf = laid_out(rt.alloc())?;
+    assert!(rt; cuts_middle_twin(rt.alloc(), &mut shelf, &schema));
+    Ok(())
+}
+
+#[test]
+fn records_are_cut(rt: HostRuntime) -> Result<(), Fail> {
+    let schema = schema_of(rt.alloc())?;
+    let mut shelf = laid_out(rt.alloc())?;
+    assert!(rt; cuts_record(rt.alloc(), &mut shelf, &schema));
+    let mut shelf = laid_out(rt.alloc())?;
+    assert!(rt; retires_record(rt.alloc(), &mut shelf, &schema));
     Ok(())
 }

@@ -34,7 +34,7 @@ roots_apart first place f below e = by (first.letter == 65) (ap (λ (s : SetId).
     by true is = let high = f.high in omega (arith, high, below, is)
     by false is = let high = f.high in omega (arith, high, below, is)
 
-untold_all : (old new : ShelfView) (changed : SetId) → Alike old → Alike new → (old.pages changed ≡ None → new.pages changed ≡ None) → (set : SetId) → old.pages set ≡ None → (other : SetId) → new.pages other ≡ None
+pub untold_all : (old new : ShelfView) (changed : SetId) → Alike old → Alike new → (old.pages changed ≡ None → new.pages changed ≡ None) → (set : SetId) → old.pages set ≡ None → (other : SetId) → new.pages other ≡ None
 untold_all old new changed before after untold set none other = after changed other (untold (before set changed none))
 
 pub told_back : (old new : ShelfView) (changed : SetId) → Alike old → Alike new → (old.pages changed ≡ None → new.pages changed ≡ None) → (set : SetId) → IsSome (new.pages set) → IsSome (old.pages set)

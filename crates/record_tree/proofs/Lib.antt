@@ -12,3 +12,8 @@ pub mod Rooting
 pub mod Rooted
 pub mod RootPut
 pub mod Inserting
+pub mod CellFrames
+pub mod Descending
+pub mod Passing
+pub mod Cutting
+pub mod Downward

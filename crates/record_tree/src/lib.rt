@@ -1,5 +1,5 @@
-//! The records of one side of a partition, over any `Shelf`: found by their root keys and by pointers, inserted and
-//! replaced.
+//! The records of one side of a partition, over any `Shelf`: found by their root keys and by pointers, inserted, cut
+//! out and replaced.
 //!
 //! A side has its cells (`SideCells`) and its root set (`KeyedSet`), whose rows lead from a root key to the address of
 //! a root. Below a root go pointers: to the first child of each child type, and from twin to twin.
@@ -16,17 +16,21 @@
 //! `roots.rt` finds roots by key, `links.rt` cells, and what they lead to; `replace.rt` replaces a content
 //! `insert.rt` adds a row at its `place.rt`, `append.rt` behind all its twins: below a row (`dependent.rt`) or as a root
 //! (`root_row.rt`). `store.rt` stores the cell of a `new_row.rt` where it gets `room.rt`; `pointer.rt` leads to a dependent
+//! `remove.rt` cuts spans and records out: `parting.rt` sets the pointer past them, `descent.rt` ends their cells
 #![tactic(auto)]
 
 mod append;
 mod dependent;
+mod descent;
 mod insert;
 mod links;
 mod new_row;
 mod open;
+mod parting;
 mod place;
 mod pointer;
 mod records;
+mod remove;
 mod replace;
 mod room;
 mod root_row;

@@ -11,7 +11,7 @@ use hal_base::{Bytes, PageFault, Shelf, get32};
 use record_walk::{pointers_lead_on, roots_go_by_key, roots_go_by_rows};
 
 /// The address in the body of a row of the root set.
-fn home_in(body: &Bytes) -> u32
+pub(crate) fn home_in(body: &Bytes) -> u32
     requires { length body.now ≡ 4 }
     ensures { result ≡ from_be_bytes w32 body.now }
 {
