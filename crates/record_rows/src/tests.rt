@@ -1,7 +1,10 @@
 // Roots, dependents and a replaced content, on a side of three levels.
 ghost use Rattle.std.specs.Prelude.{◌≡◌, ◌<◌, ◌≤◌, false, length, IfOk};
 
-use crate::{changes_content, finds_dependents, finds_roots, is_laid_out};
+use crate::{
+    appends_a_row, changes_content, finds_dependents, finds_roots, grows_levels, grows_twins,
+    is_laid_out,
+};
 use dbd_reader::read_dbd;
 use hal_schema::{RawSchema, Schema};
 use memory_shelf::QuietShelf;
@@ -54,5 +57,22 @@ fn a_content_is_replaced(rt: HostRuntime) -> Result<(), Fail> {
     let schema = schema_of(rt.alloc())?;
     let mut shelf = laid_out(rt.alloc())?;
     assert!(rt; changes_content(rt.alloc(), &mut shelf, &schema));
+    Ok(())
+}
+
+#[test]
+fn rows_are_inserted(rt: HostRuntime) -> Result<(), Fail> {
+    let schema = schema_of(rt.alloc())?;
+    let mut shelf = QuietShelf::new(rt.alloc(), 8);
+    assert!(rt; grows_levels(rt.alloc(), &mut shelf, &schema));
+    Ok(())
+}
+
+#[test]
+fn rows_are_loaded_and_appended(rt: HostRuntime) -> Result<(), Fail> {
+    let schema = schema_of(rt.alloc())?;
+    let mut shelf = QuietShelf::new(rt.alloc(), 8);
+    assert_eq!(rt; grows_twins(rt.alloc(), &mut shelf, &schema), Ok(300));
+    assert!(rt; appends_a_row(rt.alloc(), &mut shelf, &schema));
     Ok(())
 }
