@@ -26,14 +26,14 @@ use Rattle.position_state.specs.Looks.{WalkView, first_behind, root_of_key}
 use Rattle.dli_calls.specs.Ssas.{code_named}
 use Rattle.dli_calls.specs.Meets.{holds_on, is_of, meets, on_paths, ssa_holds}
 use Rattle.dli_calls.specs.Gets.{OnPath, is_unique}
-use Rattle.view_laws.specs.Views.{in_root_order, is_keyed, stand_together}
+use Rattle.view_laws.specs.Views.{goes_down, in_root_order, is_keyed, stand_together}
 use Rattle.call_gets.specs.Keyed.{goes_below, keyed_path, met_in_record, root_wanted, rows_under}
-use Rattle.call_gets.specs.Scan.{AreFound, IsFound, LooksWithin, first_inside, from_on, inside_ahead, is_inside, plain_view}
+use Rattle.call_gets.specs.Scan.{AllGoDown, AreFound, IsFound, LooksWithin, first_inside, from_on, inside_ahead, is_inside, plain_view}
 use Rattle.call_gets.proofs.ByKey.{Wants, holds_by_key, wants}
 use Rattle.call_gets.proofs.Looking.{where_told}
 use Rattle.call_gets.proofs.Rooted.{deep_of, is_root, key_alone, key_on, key_stays, keyed_next, level_off, root_alone, root_of}
-use Rattle.call_gets.proofs.Skipping.{level}
-use Rattle.call_gets.proofs.Stepping.{Differ, ends_any, next_of}
+use Rattle.call_gets.proofs.Skipping.{all_on, level}
+use Rattle.call_gets.proofs.Stepping.{Differ, ends_any, next_of, place_parts}
 
 -- ---- the first SSA on a path
 
@@ -383,3 +383,29 @@ pub within_few : (schema : Schema) (call : Call) (old new : WalkView) → new.lo
 within_few schema call old new h =
     where_told (keyed_path schema call) (λ key. LooksWithin call.ssas old new (λ rows. 2 + rows_under key (plain_view schema rows)))
     (λ key e none. where_told old.forest (λ (rows : List Row). new.looks ≤ old.looks + (2 + rows_under key (plain_view schema rows))) (λ rows k. omega (arith, h)))
+
+-- ---- types go down below a root
+
+down_after : (types : List SegType) (goes : List Spot → Bool) (path front rest : List Spot) (r : Spot) → list_all (is_keyed types) path ≡ true → list_all (is_keyed types) front ≡ true → r.level ≡ 1
+    → all_on goes (with_paths level path (front ++ r ∷ rest)) ≡ true → all_on goes (with_paths level (r ∷ []) rest) ≡ true
+down_after types goes path [] rest r h k one on =
+    ap (λ (ys : List Spot). all_on goes (with_paths level ys rest)) (sym (root_alone types path r h one)) ∙ (and_parts (goes (path_with level path r)) (all_on goes (with_paths level (path_with level path r) rest)) on).1
+down_after types goes path (x ∷ front) rest r h k one on =
+    let a = and_parts (is_keyed types x) (list_all (is_keyed types) front) k in
+    down_after types goes (path_with level path x) front rest r (keyed_next types path x h a.0) a.1 one
+    (and_parts (goes (path_with level path x)) (all_on goes (with_paths level (path_with level path x) (front ++ r ∷ rest))) on).1
+
+pub down_alone : (schema : Schema) (view : List Spot) (root : Spot) (path : List Spot) (next : Option Spot) → Differ view → IsFound view root → root.level ≡ 1 → path ≡ root ∷ [] → next ≡ first_behind root.at view
+    → list_all (is_keyed schema.types) view ≡ true → list_all (λ (p : OnPath). goes_down schema.types None p.0) (on_paths view) ≡ true → AllGoDown schema view path next
+down_alone schema view root path next d f one p n k down =
+    let goes : List Spot → Bool = goes_down schema.types None in
+    let i = place_parts root.at view root f in
+    let a = and_parts (list_all (is_keyed schema.types) i.front) (is_keyed schema.types root && list_all (is_keyed schema.types) i.rest)
+    (sym (list_all-append (is_keyed schema.types) i.front (root ∷ i.rest)) ∙ ap (list_all (is_keyed schema.types)) (sym i.is) ∙ k) in
+    ap (λ (o : Option Spot). all_on goes (with_paths level path (from_on view o))) n
+    ∙ ap (λ (ys : List Spot). all_on goes (with_paths level path ys)) (sym (next_of view (behind root.at view) d (ends_any view root.at)).is ∙ (d i.front i.rest root i.is).follows)
+    ∙ ap (λ (ys : List Spot). all_on goes (with_paths level ys i.rest)) p
+    ∙ down_after schema.types goes [] i.front i.rest root refl a.0 one (ap (λ (ys : List Spot). all_on goes (with_paths level [] ys)) (sym i.is) ∙ down)
+
+pub root_is_top : (view : List Spot) (key : List ℕ) (r : Spot) → root_of_key key view ≡ Some r → r.level ≡ 1
+root_is_top view key r e = (root_parts key view r e).level

@@ -1,7 +1,9 @@
 -- What a scan from a place finds is what a get finds behind it.
-use Rattle.std.proofs.Common.{◌≡◌, ℕ, Bool, true, false, cond, List, [], ◌∷◌, Option, None, Some, Result, Ok, Err, refl, sym, ap, subst, ◌∙◌}
+use Rattle.std.proofs.Common.{◌≡◌, ℕ, zero, suc, ◌+◌, drop, ◌&&◌, Bool, true, false, cond, List, [], ◌∷◌, Option, None, Some, Result, Ok, Err, refl, sym, ap, subst, ◌∙◌}
 use Rattle.std.specs.Prelude.{find, filter, IfOk, IfSome, IsTrue}
+use Rattle.std.specs.List.{list_all, position_or_len}
 use Rattle.std.specs.Option.{option_map_or}
+use Rattle.std.proofs.lemmas.Bool.{and_parts}
 use Rattle.std.specs.Str.{bytes_eq}
 use Rattle.hal_schema.specs.declared.schema.Schema.{Schema}
 use Rattle.hal_schema.specs.Paths.{with_paths}
@@ -12,13 +14,14 @@ use Rattle.position_state.specs.declared.session.Session.{Session}
 use Rattle.position_state.specs.declared.session.Anchor.{Anchor}
 use Rattle.position_state.specs.declared.session.Anchor.TheVariants.{Front, At}
 use Rattle.position_state.specs.declared.spot.Spot.{Spot}
-use Rattle.position_state.specs.View.{view_of, is_place_of, root_named, behind}
+use Rattle.position_state.specs.View.{view_of, is_at, is_place_of, root_named, behind}
 use Rattle.position_state.specs.Looks.{WalkView, found_at, first_behind, stands_in}
 use Rattle.dli_calls.specs.Meets.{meets, on_paths}
 use Rattle.dli_calls.specs.Gets.{OnPath, is_unique, is_next, is_below_parent, looked_at, got, paths_behind}
-use Rattle.call_gets.specs.Scan.{AreFound, IsFound, IsPath, path_of, plain_view, first_inside, from_on, met_from, met_behind, met_below}
+use Rattle.view_laws.specs.Views.{goes_down}
+use Rattle.call_gets.specs.Scan.{AllGoDown, AreFound, IsFound, IsPath, path_of, plain_view, first_inside, from_on, met_from, met_behind, met_below}
 use Rattle.call_gets.proofs.Stepping.{Differ, ends_any, next_of}
-use Rattle.call_gets.proofs.Skipping.{level}
+use Rattle.call_gets.proofs.Skipping.{all_on, level}
 use Rattle.call_gets.proofs.Routing.{routed}
 
 pub if_ok : {T E : Type 0} (r : Result T E) (P Q : T → Type 0) → ((x : T) → P x → Q x) → IfOk r P → IfOk r Q
@@ -107,3 +110,23 @@ got_below schema rows call session parent met plain u n e h =
 pub got_nowhere : (schema : Schema) (rows : List Row) (call : Call) (session : Session) → session.index ≡ None → is_unique call ≡ false → is_next call ≡ false → session.parent ≡ None → None ≡ got schema rows call session
 got_nowhere schema rows call session plain u n e =
     ap (find (meets schema None (plain_view schema rows) call.ssas)) (sym (no_parent (paths_behind session.anchor (on_paths (plain_view schema rows))))) ∙ within schema rows call session None plain u n e
+
+-- ---- types go down from a place on
+
+all_dropped : (goes : List Spot → Bool) (n : ℕ) (ps : List OnPath) → all_on goes ps ≡ true → all_on goes (drop n ps) ≡ true
+all_dropped goes zero ps h = h
+all_dropped goes (suc n) [] h = refl
+all_dropped goes (suc n) (p ∷ ps) h = all_dropped goes n ps (and_parts (goes p.0) (all_on goes ps) h).1
+
+all_behind : (goes : List Spot → Bool) (at : Anchor) (ps : List OnPath) → all_on goes ps ≡ true → all_on goes (paths_behind at ps) ≡ true
+all_behind goes Front ps h = h
+all_behind goes (At name root entry) ps h = all_dropped goes (position_or_len (λ (p : OnPath). is_at (At name root entry) p.1) ps + 1) ps h
+
+pub down_behind : (schema : Schema) (view : List Spot) (at : Anchor) (path : List Spot) (next : Option Spot) → Differ view → is_place_of view at ≡ true → IsPath view at path → next ≡ first_behind at view
+    → list_all (λ (p : OnPath). goes_down schema.types None p.0) (on_paths view) ≡ true → AllGoDown schema view path next
+down_behind schema view at path next d h p e down =
+    let goes : List Spot → Bool = goes_down schema.types None in
+    ap (λ (o : Option Spot). all_on goes (with_paths level path (from_on view o))) e
+    ∙ ap (λ (ys : List Spot). all_on goes (with_paths level path ys)) (sym (next_of view (behind at view) d (ends_any view at)).is)
+    ∙ ap (λ (ys : List Spot). all_on goes (with_paths level ys (behind at view))) p.same
+    ∙ ap (all_on goes) (sym (paths_are view at d h)) ∙ all_behind goes at (on_paths view) down

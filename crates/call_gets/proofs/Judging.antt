@@ -63,7 +63,7 @@ one_is P schema path ssa one h e = by (code_named schema ssa.seg) e
 
 pub closed_by : (schema : Schema) (view : List Spot) (ssas : List Ssa) (path : List Spot) (i : ℕ) (ssa : Ssa) (one : Spot) → i < length ssas → ssa ≡ get_or ssas i ssa
     → of_ssa schema ssa path ≡ Some one → false ≡ ssa_holds schema None view ssa one → IsClosed schema view ssas path
-closed_by schema view ssas path i ssa one lt is e fails = λ more x.
+closed_by schema view ssas path i ssa one lt is e fails = λ more x down last.
     let off : holds_on schema None view (path ++ more) (get_or ssas i ssa) ≡ false =
     ap (holds_on schema None view (path ++ more)) (sym is) ∙ holds_by schema view (path ++ more) ssa one false (of_ssa_more schema path more ssa one e) fails in
     and_right (option_map_or (is_of schema x) (last_or None ssas) true) (list_all (holds_on schema None view (path ++ more)) ssas)

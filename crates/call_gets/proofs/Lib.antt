@@ -7,6 +7,7 @@ mod Deciding
 mod Finding
 mod Giving
 mod Judging
+mod Leading
 mod Listing
 mod Looking
 mod Moving

@@ -1,7 +1,7 @@
 -- One step of a scan, and many.
 use Rattle.std.proofs.Common.{◌≡◌, ℕ, ◌+◌, ◌<◌, ◌≤◌, Bool, true, false, cond, ◌&&◌, List, [], ◌∷◌, ◌++◌, Option, None, Some, refl, sym, ap, subst, ◌∙◌, arith}
 use Rattle.std.specs.Prelude.{nat_le, nat_lt, slice_get, All, IfSome}
-use Rattle.std.specs.List.{list_all}
+use Rattle.std.specs.List.{last_or, list_all}
 use Rattle.std.proofs.lemmas.Bool.{and_parts, and_from, ltb-true, lt-ltb, le-leb, le-ltb}
 use Rattle.std.proofs.lemmas.List.{append-nil}
 use Rattle.std.proofs.lemmas.List.Elements.{filter-append, All-filter, All-push}
@@ -15,14 +15,16 @@ use Rattle.position_state.specs.Looks.{past, first_behind}
 use Rattle.dli_calls.specs.Meets.{meets}
 use Rattle.dli_calls.specs.Gets.{OnPath}
 use Rattle.call_gets.specs.declared.scan.Step.TheVariants.{Ends, GoesOn}
-use Rattle.call_gets.specs.Scan.{AreFound, IsFound, IsClosed, IsNearer, IsStep, from_on, inside_ahead, is_inside, first_inside, met_from}
+use Rattle.view_laws.specs.Views.{goes_down}
+use Rattle.call_gets.specs.Scan.{AllGoDown, AreFound, IsFound, IsClosed, IsNearer, IsStep, from_on, inside_ahead, is_inside, first_inside, met_from}
 use Rattle.call_gets.proofs.Stepping.{Differ, ends_behind, next_of, passed, Passed}
-use Rattle.call_gets.proofs.Skipping.{level, kept, kept_low, kept_is_low, outside, meets_here, goes_below, skip}
+use Rattle.call_gets.proofs.Skipping.{level, kept, kept_low, kept_is_low, outside, meets_here, goes_below, last_end, skip, skip_all, all_on}
 
 -- what is left to be found is what there was to be found
 pub record Moved (schema : Schema) (view : List Spot) (ssas : List Ssa) (top : Option ℕ) (path : List Spot) (first : Option Spot) (now : List Spot) (next : Option Spot) : Type 0 where
   pub same : met_from schema view ssas top path first ≡ met_from schema view ssas top now next
   pub found : AreFound view now next
+  pub down : AllGoDown schema view now next
 
 pub moved_none : (schema : Schema) (view : List Spot) (ssas : List Ssa) (top : Option ℕ) (path : List Spot) (first : Option Spot) (now : List Spot) (next : Option Spot) → Moved schema view ssas top path first now next
     → next ≡ None → None ≡ met_from schema view ssas top path first
@@ -44,7 +46,11 @@ moved_met schema view ssas top path first now next s met above m e h = sym (m.sa
 pub moved_on : (schema : Schema) (view : List Spot) (ssas : List Ssa) (top : Option ℕ) (path : List Spot) (first : Option Spot) (now : List Spot) (next : Option Spot) (s : Spot) (above : List Spot) (other : Option Spot)
     → Moved schema view ssas top path first now next
     → next ≡ Some s → IsStep schema view ssas top (met_from schema view ssas top now (Some s)) above (GoesOn other) → Moved schema view ssas top path first above other
-moved_on schema view ssas top path first now next s above other m e h = record { same = m.same ∙ ap (met_from schema view ssas top now) e ∙ h.0; found = h.1 }
+moved_on schema view ssas top path first now next s above other m e h = record { same = m.same ∙ ap (met_from schema view ssas top now) e ∙ h.0; found = h.1; down = h.2 }
+
+pub moved_down : (schema : Schema) (view : List Spot) (ssas : List Ssa) (top : Option ℕ) (path : List Spot) (first : Option Spot) (now : List Spot) (next : Option Spot) (s : Spot) → Moved schema view ssas top path first now next
+    → next ≡ Some s → AllGoDown schema view now (Some s)
+moved_down schema view ssas top path first now next s m e = subst (AllGoDown schema view now) e m.down
 
 -- ---- one step
 
@@ -70,9 +76,9 @@ step_meets schema view ssas top old above s inside e h =
     ∙ ap (λ (ys : List Spot). Some (ys ++ s ∷ [], s)) (sym e)
 
 pub step_open : (schema : Schema) (view : List Spot) (ssas : List Ssa) (top : Option ℕ) (old above now : List Spot) (s : Spot) (next : Option Spot) → Differ view → is_inside top s ≡ true → above ≡ kept s.level old
-    → AreFound view old (Some s) → meets schema None view ssas (above ++ s ∷ [], s) ≡ false → next ≡ first_behind s.at view → now ≡ above ++ s ∷ []
+    → AreFound view old (Some s) → AllGoDown schema view old (Some s) → meets schema None view ssas (above ++ s ∷ [], s) ≡ false → next ≡ first_behind s.at view → now ≡ above ++ s ∷ []
     → IsStep schema view ssas top (met_from schema view ssas top old (Some s)) now (GoesOn next)
-step_open schema view ssas top old above now s next d inside e f h n p =
+step_open schema view ssas top old above now s next d inside e f g h n p =
     let q = next_of view (behind s.at view) d (ends_behind view s d f.ahead) in
     let test : OnPath → Bool = meets schema None view ssas in
     let path : path_with level old s ≡ now = ap (λ (ys : List Spot). ys ++ s ∷ []) (sym e) ∙ sym p in (
@@ -84,26 +90,36 @@ step_open schema view ssas top old above now s next d inside e f h n p =
         along = subst (All (IsFound view)) path (All-push (IsFound view) (kept s.level old) s (All-filter (λ (y : Spot). nat_lt y.level s.level) (IsFound view) old f.along) f.ahead);
         ahead = subst (λ (o : Option Spot). IfSome o (IsFound view)) (sym n) q.found;
       },
+      ap (λ (o : Option Spot). all_on (goes_down schema.types None) (with_paths level now (from_on view o))) n
+          ∙ ap (λ (ys : List Spot). all_on (goes_down schema.types None) (with_paths level ys (from_on view (slice_get (behind s.at view) 0)))) (sym path)
+          ∙ ap (λ (ys : List Spot). all_on (goes_down schema.types None) (with_paths level (path_with level old s) ys)) (sym q.is)
+          ∙ (and_parts (goes_down schema.types None (path_with level old s)) (all_on (goes_down schema.types None) (with_paths level (path_with level old s) (behind s.at view))) g).1,
     )
 
 pub step_closed : (schema : Schema) (view : List Spot) (ssas : List Ssa) (top : Option ℕ) (old above : List Spot) (s : Spot) (next : Option Spot) → Differ view → is_inside top s ≡ true → above ≡ kept s.level old
-    → AreFound view old (Some s) → IsClosed schema view ssas (above ++ s ∷ []) → next ≡ past s view
+    → AreFound view old (Some s) → AllGoDown schema view old (Some s) → IsClosed schema view ssas (above ++ s ∷ []) → next ≡ past s view
     → IsStep schema view ssas top (met_from schema view ssas top old (Some s)) above (GoesOn next)
-step_closed schema view ssas top old above s next d inside e f closed n =
+step_closed schema view ssas top old above s next d inside e f g closed n =
     let test : OnPath → Bool = meets schema None view ssas in
     let p : List Spot = path_with level old s in
     let shut : IsClosed schema view ssas p = subst (λ (ys : List Spot). IsClosed schema view ssas (ys ++ s ∷ [])) e closed in
-    let q : Passed view (behind s.at view) s.level next = subst (Passed view (behind s.at view) s.level) (sym n) (passed view (behind s.at view) s.level d (ends_behind view s d f.ahead)) in (
-      goes_below top test view old s inside (ap (λ (ys : List Spot). test (ys, s)) (sym (append-nil p)) ∙ shut [] s)
+    let q : Passed view (behind s.at view) s.level next = subst (Passed view (behind s.at view) s.level) (sym n) (passed view (behind s.at view) s.level d (ends_behind view s d f.ahead)) in
+    let goes : List Spot → Bool = goes_down schema.types None in
+    let a = and_parts (goes p) (all_on goes (with_paths level p (behind s.at view))) g in
+    let on : all_on goes (with_paths level (p ++ []) (q.deep ++ from_on view next)) ≡ true =
+    ap (λ (ys : List Spot). all_on goes (with_paths level ys (q.deep ++ from_on view next))) (append-nil p) ∙ ap (λ (ys : List Spot). all_on goes (with_paths level p ys)) (sym q.is) ∙ a.1 in (
+      goes_below top test view old s inside (ap (λ (ys : List Spot). test (ys, s)) (sym (append-nil p)) ∙ shut [] s (ap goes (append-nil p) ∙ a.0) (ap (λ (ys : List Spot). last_or None ys) (append-nil p) ∙ last_end None [] (kept s.level old) s))
           ∙ ap (λ (ys : List Spot). first_inside top test (with_paths level p ys)) q.is
           ∙ ap (λ (ys : List Spot). first_inside top test (with_paths level ys (q.deep ++ from_on view next))) (sym (append-nil p))
-          ∙ skip top test view (kept s.level old) p s.level [] q.deep next
-          (λ l lt. kept_low s.level l p (path_low s old) lt) (same_above s old) refl q.deeper (λ x lt. deeper_inside top s x inside lt) shut q.high
+          ∙ skip top test goes view (kept s.level old) p s.level [] q.deep next
+          (λ l lt. kept_low s.level l p (path_low s old) lt) (same_above s old) refl q.deeper (λ x lt. deeper_inside top s x inside lt) shut q.high on
           ∙ ap (λ (ys : List Spot). first_inside top test (with_paths level ys (from_on view next))) (sym e),
       record {
         along = subst (All (IsFound view)) (sym e) (All-filter (λ (y : Spot). nat_lt y.level s.level) (IsFound view) old f.along);
         ahead = q.found;
       },
+      ap (λ (ys : List Spot). all_on goes (with_paths level ys (from_on view next))) e
+          ∙ skip_all goes view (kept s.level old) p s.level [] q.deep next (λ l lt. kept_low s.level l p (path_low s old) lt) (same_above s old) refl q.deeper q.high on,
     )
 
 -- ---- fewer are ahead after a step

@@ -1,7 +1,7 @@
 -- What a scan finds after a step.
 use Rattle.std.proofs.Common.{◌≡◌, ℕ, ◌<◌, ◌≤◌, Bool, true, false, not, cond, ◌&&◌, List, [], ◌∷◌, ◌++◌, Option, None, Some, refl, sym, ap, ◌∙◌, arith}
 use Rattle.std.specs.Prelude.{nat_le, nat_lt, filter, IfSome}
-use Rattle.std.specs.List.{list_all}
+use Rattle.std.specs.List.{last_or, list_all}
 use Rattle.std.proofs.lemmas.Bool.{and_parts, and_from, ltb-true, ltb-false, leb-true, le-leb, lt-ltb, le-ltb}
 use Rattle.std.proofs.lemmas.List.{append_assoc, append-nil}
 use Rattle.std.proofs.lemmas.List.Elements.{filter-append}
@@ -85,36 +85,78 @@ goes_below top test view path s h k =
     let rest : Option OnPath = first_inside top test (with_paths level p (behind s.at view)) in
     ap (λ b. cond (not b) None (cond (test (p, s)) (Some (p, s)) rest)) h ∙ ap (λ b. cond b (Some (p, s)) rest) k
 
+pub last_end : (o : Option Spot) (ys zs : List Spot) (x : Spot) → last_or o (ys ++ (zs ++ x ∷ [])) ≡ Some x
+last_end o [] [] x = refl
+last_end o [] (z ∷ zs) x = last_end (Some z) [] zs x
+last_end o (y ∷ ys) zs x = last_end (Some y) ys zs x
+
+-- an element behind a path, where the path goes on with what is deeper than its own end
+record Deeper (path more : List Spot) (m : ℕ) (x : Spot) : Type 0 where
+  more' : List Spot
+  next : path_with level (path ++ more) x ≡ path ++ more'
+  deeper : list_all (λ x. nat_lt m x.level) more' ≡ true
+  last : last_or None (path ++ more') ≡ Some x
+
+deeper_on : (path : List Spot) (m : ℕ) (more : List Spot) (x : Spot) → ((l : ℕ) → m < l → kept l path ≡ path) → list_all (λ x. nat_lt m x.level) more ≡ true → nat_lt m x.level ≡ true → Deeper path more m x
+deeper_on path m more x stays h lt = record {
+  more' = kept x.level more ++ x ∷ [];
+  next = ap (λ (r : List Spot). r ++ x ∷ [])
+      (filter-append (λ (y : Spot). nat_lt y.level x.level) path more ∙ ap (λ (r : List Spot). r ++ kept x.level more) (stays x.level (ltb-true m x.level lt)))
+      ∙ append_assoc path (kept x.level more) (x ∷ []);
+  deeper = list_all-append (λ (x : Spot). nat_lt m x.level) (kept x.level more) (x ∷ [])
+      ∙ and_from (list_all (λ x. nat_lt m x.level) (kept x.level more)) (nat_lt m x.level && true) (all_kept m x.level more h) (and_from (nat_lt m x.level) true lt refl);
+  last = last_end None path (kept x.level more) x;
+}
+
+same_next : (above path : List Spot) (m : ℕ) (more : List Spot) (t : Spot) → ((l : ℕ) → l ≤ m → kept l path ≡ kept l above) → list_all (λ x. nat_lt m x.level) more ≡ true → t.level ≤ m → kept t.level (path ++ more) ≡ kept t.level above
+same_next above path m more t same h high =
+    filter-append (λ (x : Spot). nat_lt x.level t.level) path more
+    ∙ ap (λ r. kept t.level path ++ r) (kept_none m t.level more h high)
+    ∙ append-nil (kept t.level path) ∙ same t.level high
+
+-- a test of each path from an element on
+abbrev pub all_on : (List Spot → Bool) → List OnPath → Bool
+all_on goes ps = list_all (λ (p : OnPath). goes p.0) ps
+
 -- what is deeper than a path, none of which passes the test, is passed over
-pub skip : (top : Option ℕ) (test : OnPath → Bool) (view above path : List Spot) (m : ℕ) (more deep : List Spot) (next : Option Spot)
+pub skip : (top : Option ℕ) (test : OnPath → Bool) (goes : List Spot → Bool) (view above path : List Spot) (m : ℕ) (more deep : List Spot) (next : Option Spot)
     → ((l : ℕ) → m < l → kept l path ≡ path)
     → ((l : ℕ) → l ≤ m → kept l path ≡ kept l above)
     → list_all (λ x. nat_lt m x.level) more ≡ true
     → list_all (λ x. nat_lt m x.level) deep ≡ true
     → ((x : Spot) → m < x.level → is_inside top x ≡ true)
-    → ((more : List Spot) (x : Spot) → test (path ++ more, x) ≡ false)
+    → ((more : List Spot) (x : Spot) → goes (path ++ more) ≡ true → last_or None (path ++ more) ≡ Some x → test (path ++ more, x) ≡ false)
     → IfSome next (λ t. t.level ≤ m)
+    → all_on goes (with_paths level (path ++ more) (deep ++ from_on view next)) ≡ true
     → first_inside top test (with_paths level (path ++ more) (deep ++ from_on view next)) ≡ first_inside top test (with_paths level above (from_on view next))
-skip top test view above path m more [] None stays same h k inside fails high = refl
-skip top test view above path m more [] (Some t) stays same h k inside fails high =
-    let e : kept t.level (path ++ more) ≡ kept t.level above =
-    filter-append (λ (x : Spot). nat_lt x.level t.level) path more
-    ∙ ap (λ r. kept t.level path ++ r) (kept_none m t.level more h high)
-    ∙ append-nil (kept t.level path) ∙ same t.level high in
-    ap (λ (r : List Spot). first_inside top test ((r ++ t ∷ [], t) ∷ with_paths level (r ++ t ∷ []) (behind t.at view))) e
-skip top test view above path m more (x ∷ xs) next stays same h k inside fails high =
+skip top test goes view above path m more [] None stays same h k inside fails high on = refl
+skip top test goes view above path m more [] (Some t) stays same h k inside fails high on =
+    ap (λ (r : List Spot). first_inside top test ((r ++ t ∷ [], t) ∷ with_paths level (r ++ t ∷ []) (behind t.at view))) (same_next above path m more t same h high)
+skip top test goes view above path m more (x ∷ xs) next stays same h k inside fails high on =
     let a = and_parts (nat_lt m x.level) (list_all (λ x. nat_lt m x.level) xs) k in
-    let lt : m < x.level = ltb-true m x.level a.0 in
-    let more' : List Spot = kept x.level more ++ x ∷ [] in
     let rest : List Spot = xs ++ from_on view next in
-    let e : path_with level (path ++ more) x ≡ path ++ more' =
-    ap (λ (r : List Spot). r ++ x ∷ [])
-    (filter-append (λ (y : Spot). nat_lt y.level x.level) path more ∙ ap (λ (r : List Spot). r ++ kept x.level more) (stays x.level lt))
-    ∙ append_assoc path (kept x.level more) (x ∷ []) in
-    let h' : list_all (λ x. nat_lt m x.level) more' ≡ true =
-    list_all-append (λ (x : Spot). nat_lt m x.level) (kept x.level more) (x ∷ [])
-    ∙ and_from (list_all (λ x. nat_lt m x.level) (kept x.level more)) (nat_lt m x.level && true) (all_kept m x.level more h) (and_from (nat_lt m x.level) true a.0 refl) in
-    ap (λ (r : List Spot). first_inside top test ((r, x) ∷ with_paths level r rest)) e
-    ∙ ap (λ b. cond (not b) None (cond (test (path ++ more', x)) (Some (path ++ more', x)) (first_inside top test (with_paths level (path ++ more') rest)))) (inside x lt)
-    ∙ ap (λ b. cond b (Some (path ++ more', x)) (first_inside top test (with_paths level (path ++ more') rest))) (fails more' x)
-    ∙ skip top test view above path m more' xs next stays same h' a.1 inside fails high
+    let d = deeper_on path m more x stays h a.0 in
+    let g = and_parts (goes (path_with level (path ++ more) x)) (all_on goes (with_paths level (path_with level (path ++ more) x) rest)) on in
+    ap (λ (r : List Spot). first_inside top test ((r, x) ∷ with_paths level r rest)) d.next
+    ∙ ap (λ b. cond (not b) None (cond (test (path ++ d.more', x)) (Some (path ++ d.more', x)) (first_inside top test (with_paths level (path ++ d.more') rest)))) (inside x (ltb-true m x.level a.0))
+    ∙ ap (λ b. cond b (Some (path ++ d.more', x)) (first_inside top test (with_paths level (path ++ d.more') rest))) (fails d.more' x (ap goes (sym d.next) ∙ g.0) d.last)
+    ∙ skip top test goes view above path m d.more' xs next stays same d.deeper a.1 inside fails high (ap (λ (r : List Spot). all_on goes (with_paths level r rest)) (sym d.next) ∙ g.1)
+
+-- what passed over it is still so behind it
+pub skip_all : (goes : List Spot → Bool) (view above path : List Spot) (m : ℕ) (more deep : List Spot) (next : Option Spot)
+    → ((l : ℕ) → m < l → kept l path ≡ path)
+    → ((l : ℕ) → l ≤ m → kept l path ≡ kept l above)
+    → list_all (λ x. nat_lt m x.level) more ≡ true
+    → list_all (λ x. nat_lt m x.level) deep ≡ true
+    → IfSome next (λ t. t.level ≤ m)
+    → all_on goes (with_paths level (path ++ more) (deep ++ from_on view next)) ≡ true
+    → all_on goes (with_paths level above (from_on view next)) ≡ true
+skip_all goes view above path m more [] None stays same h k high on = refl
+skip_all goes view above path m more [] (Some t) stays same h k high on =
+    ap (λ (r : List Spot). all_on goes ((r ++ t ∷ [], t) ∷ with_paths level (r ++ t ∷ []) (behind t.at view))) (sym (same_next above path m more t same h high)) ∙ on
+skip_all goes view above path m more (x ∷ xs) next stays same h k high on =
+    let a = and_parts (nat_lt m x.level) (list_all (λ x. nat_lt m x.level) xs) k in
+    let rest : List Spot = xs ++ from_on view next in
+    let d = deeper_on path m more x stays h a.0 in
+    let g = and_parts (goes (path_with level (path ++ more) x)) (all_on goes (with_paths level (path_with level (path ++ more) x) rest)) on in
+    skip_all goes view above path m d.more' xs next stays same d.deeper a.1 high (ap (λ (r : List Spot). all_on goes (with_paths level r rest)) (sym d.next) ∙ g.1)

@@ -1,12 +1,12 @@
 -- A GU by the root's key: of the root alone, or of what is below it. IMS: a call whose first SSA is qualified on the sequence
 -- field alone.
-use Rattle.std.specs.Prelude.{ℕ, ◌==◌, nat_lt, Bool, false, not, ◌&&◌, List, [], ◌∷◌, codes, Option, None, Some, option_and_then, if◌then◌else◌}
+use Rattle.std.specs.Prelude.{ℕ, ◌+◌, ◌==◌, nat_lt, Bool, false, not, ◌&&◌, List, [], ◌∷◌, codes, Option, None, Some, IfSome, option_and_then, if◌then◌else◌}
 use Rattle.std.specs.List.{count_by, last_or, slice_get}
 use Rattle.std.specs.Option.{option_map_or}
 use Rattle.std.specs.Str.{bytes_eq}
 use Rattle.hal_schema.specs.declared.schema.Schema.{Schema}
 use Rattle.position_state.specs.declared.spot.Spot.{Spot}
-use Rattle.position_state.specs.Looks.{first_behind, root_of_key}
+use Rattle.position_state.specs.Looks.{WalkView, first_behind, root_of_key}
 use Rattle.position_state.specs.View.{root_named}
 use Rattle.call_text.specs.declared.line.Call.{Call}
 use Rattle.call_text.specs.declared.line.Clause.{Clause}
@@ -14,7 +14,7 @@ use Rattle.call_text.specs.declared.line.Ssa.{Ssa}
 use Rattle.dli_calls.specs.Ssas.{Subject, Content, Search, asks_last, code_named, fitted, subject_of}
 use Rattle.dli_calls.specs.Gets.{OnPath, is_unique}
 use Rattle.dli_calls.specs.Refusals.{is_at_root_key}
-use Rattle.call_gets.specs.Scan.{met_from}
+use Rattle.call_gets.specs.Scan.{LooksWithin, met_from, plain_view}
 
 abbrev pub one_of : {X : Type 0} → List X → Option X
 one_of [] = None
@@ -48,6 +48,11 @@ keyed_path schema call = if is_unique call && goes_below schema call.ssas then o
 -- how many elements are under the root with a key: those of its record
 abbrev pub rows_under : List ℕ → List Spot → ℕ
 rows_under key view = count_by (λ spot. bytes_eq (root_named spot.at) key) view
+
+-- where a GU asks for a root key and goes on, and no SSA has L, there are no more looks than two and one for each element of
+-- that record
+abbrev pub IsWithinRecord : Schema → Call → WalkView → WalkView → Type 0
+IsWithinRecord schema call old new = IfSome (keyed_path schema call) (λ key. LooksWithin call.ssas old new (λ rows. 2 + rows_under key (plain_view schema rows)))
 
 -- what a scan finds of the record of the root with a key, below the root
 abbrev pub met_in_record : Schema → List Ssa → List ℕ → List Spot → Option OnPath

@@ -1,6 +1,6 @@
 -- What a scan of the view in hierarchic sequence finds: it goes from element to element, and carries the path.
 use Rattle.std.specs.Prelude.{◌≡◌, ℕ, ◌+◌, ◌==◌, ◌-◌, ◌^◌, ◌≤◌, min, nat_lt, Bool, true, false, not, List, [], ◌∷◌, ◌++◌, find, filter, All, Option, None, Some, IfSome, if◌then◌else◌}
-use Rattle.std.specs.List.{list_any}
+use Rattle.std.specs.List.{last_or, list_all, list_any}
 use Rattle.std.specs.Option.{ForSome, option_map, option_map_or, option_and_then}
 use Rattle.hal_base.specs.Fault.{Fails}
 use Rattle.hal_schema.specs.declared.row.Row.{Row}
@@ -18,6 +18,8 @@ use Rattle.dli_calls.specs.Ssas.{asks_last, code_named}
 use Rattle.dli_calls.specs.Meets.{on_paths, meets, ssa_holds}
 use Rattle.dli_calls.specs.Gets.{OnPath, is_below_parent, paths_behind}
 use Rattle.dli_calls.specs.Decided.{decision_of}
+use Rattle.dli_calls.specs.Refusals.{is_in_subtree}
+use Rattle.view_laws.specs.Views.{goes_down}
 use Rattle.dli_calls.specs.declared.decision.Decision.{Decision}
 use Rattle.call_gets.specs.declared.scan.Met.{Met}
 use Rattle.call_gets.specs.declared.scan.Step.{Step}
@@ -64,9 +66,14 @@ Holds schema seen ssa spot holds = IfSome seen.forest (λ rows. holds ≡ ssa_ho
 abbrev pub IsOn : Schema → List Spot → List Spot → Ssa → Option Bool → Type 0
 IsOn schema view path ssa on = on ≡ option_map (ssa_holds schema None view ssa) (of_ssa schema ssa path)
 
--- nothing that has this path as the beginning of its own meets the SSAs
+-- nothing whose path goes on from this one, by types one below the other, meets the SSAs
 abbrev pub IsClosed : Schema → List Spot → List Ssa → List Spot → Type 0
-IsClosed schema view ssas path = (more : List Spot) (x : Spot) → meets schema None view ssas (path ++ more, x) ≡ false
+IsClosed schema view ssas path =
+    (more : List Spot) (x : Spot) → goes_down schema.types None (path ++ more) ≡ true → last_or None (path ++ more) ≡ Some x → meets schema None view ssas (path ++ more, x) ≡ false
+
+-- whether the last SSA's type is that of a code, or below it; any may lead to what no SSA asks for
+abbrev pub may_lead : Schema → List Ssa → ℕ → Bool
+may_lead schema ssas code = option_map_or (λ ssa. option_map_or (is_in_subtree schema code) (code_named schema ssa.seg) false) (last_or None ssas) true
 
 abbrev pub IsVerdict : Schema → List Spot → List Ssa → List Spot → Spot → Verdict → Type 0
 IsVerdict schema view ssas path spot Meets = meets schema None view ssas (path, spot) ≡ true
@@ -95,6 +102,10 @@ abbrev pub from_on : List Spot → Option Spot → List Spot
 from_on view None = []
 from_on view (Some spot) = spot ∷ behind spot.at view
 
+-- on each path from an element on each type is right below the one before it
+abbrev pub AllGoDown : Schema → List Spot → List Spot → Option Spot → Type 0
+AllGoDown schema view path next = list_all (λ p. goes_down schema.types None p.0) (with_paths (λ spot. spot.level) path (from_on view next)) ≡ true
+
 -- a scan goes below an element of this level, and no further than what is deeper
 abbrev pub is_inside : Option ℕ → Spot → Bool
 is_inside top spot = option_map_or (λ level. nat_lt level spot.level) top true
@@ -122,7 +133,7 @@ IsFirstMet schema seen ssas top path next met =
 -- what one step of a scan leaves to be found: nothing, since this is it, or what it finds that goes on at another element
 abbrev pub IsStep : Schema → List Spot → List Ssa → Option ℕ → Option OnPath → List Spot → Step → Type 0
 IsStep schema view ssas top met path (Ends found) = met ≡ Some (path ++ found ∷ [], found)
-IsStep schema view ssas top met path (GoesOn next) = (met ≡ met_from schema view ssas top path next) × AreFound view path next
+IsStep schema view ssas top met path (GoesOn next) = (met ≡ met_from schema view ssas top path next) × AreFound view path next × AllGoDown schema view path next
 
 abbrev pub Steps : Schema → WalkView → List Ssa → Option ℕ → List Spot → Spot → List Spot → Step → Type 0
 Steps schema seen ssas top old spot new step =

@@ -10,9 +10,9 @@ ghost use Rattle.dli_calls.specs.Gets.{after_get, crossing, got_status, is_get, 
 ghost use Rattle.dli_calls.specs.Meets.{is_of};
 ghost use Rattle.dli_calls.specs.Refusals.{asks_high_root};
 ghost use Rattle.dli_calls.specs.Ssas.{asks_data};
-ghost use Rattle.call_gets.specs.Scan.{IsDecided, LooksOn, LooksWithin, on_its_path, plain_view};
+ghost use Rattle.call_gets.specs.Scan.{IsDecided, LooksOn, on_its_path};
 ghost use Rattle.call_gets.specs.Shown.{is_of_any};
-ghost use Rattle.call_gets.specs.Keyed.{keyed_by, keyed_path, rows_under};
+ghost use Rattle.call_gets.specs.Keyed.{IsWithinRecord, keyed_by};
 
 use crate::form::asks_data;
 use crate::functions::{is_hold, is_next, is_unique, is_within_parent};
@@ -46,7 +46,7 @@ pub fn decide_get<W: Walk>(
     ensures decided { IfOk result (IsDecided schema.now (W.seen walk.old) session.now call.now) }
     ensures few { is_of_any call.now ≡ true → (W.seen walk.new).looks ≤ (W.seen walk.old).looks + 2 }
     ensures keyed { is_some (keyed_by schema.now call.now) ≡ true → (W.seen walk.new).looks ≤ (W.seen walk.old).looks + 1 }
-    ensures within { IfSome (keyed_path schema.now call.now) (λ key. LooksWithin call.now.ssas (W.seen walk.old) (W.seen walk.new) (λ rows. 2 + rows_under key (plain_view schema.now rows))) }
+    ensures within { IsWithinRecord schema.now call.now (W.seen walk.old) (W.seen walk.new) }
     ensures looked { LooksOn (IsErrOf result WalkFault.Failed) (W.seen walk.old) (W.seen walk.new) }
 {
     if let Some(status) = text_refusal(schema, session, call) {

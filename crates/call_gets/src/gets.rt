@@ -8,7 +8,7 @@ ghost use Rattle.dli_calls.specs.Gets.{paths_behind};
 ghost use Rattle.dli_calls.specs.Meets.{meets, on_paths};
 ghost use Rattle.call_gets.specs.Scan.{IsGot, IsPath, IsShown, LooksOn, LooksWithin, from_on, inside_ahead, level_at, met_behind, met_below, met_from, on_its_path, path_of, plain_view};
 ghost use Rattle.call_gets.specs.Shown.{IsGiven, IsGotBy, is_of_any};
-ghost use Rattle.call_gets.specs.Keyed.{keyed_by, keyed_path, met_in_record, rows_under};
+ghost use Rattle.call_gets.specs.Keyed.{IsWithinRecord, keyed_by, met_in_record, rows_under};
 
 use crate::functions::{is_next, is_unique};
 use crate::keyed::{keyed_by, keyed_path};
@@ -20,7 +20,7 @@ use hal_base::Bytes;
 use hal_schema::Schema;
 use position_state::{Anchor, Session, Spot, Walk, WalkFault};
 use std::alloc::Global;
-use view_laws::{places_differ, records_stand_together, roots_are_keyed, roots_rise};
+use view_laws::{places_differ, records_stand_together, roots_are_keyed, roots_rise, types_go_down};
 
 /// The element that a get finds, with its path: GU looks at the whole view, GN behind the position, and GNP at what of
 /// that is below the parent.
@@ -38,7 +38,7 @@ pub(crate) fn got<W: Walk>(
     ensures got { IfOk result (IsGotBy schema.now (W.seen walk.old) session.now call.now) }
     ensures few { is_of_any call.now ≡ true → (W.seen walk.new).looks ≤ (W.seen walk.old).looks + 1 }
     ensures keyed { is_some (keyed_by schema.now call.now) ≡ true → (W.seen walk.new).looks ≤ (W.seen walk.old).looks + 1 }
-    ensures within { IfSome (keyed_path schema.now call.now) (λ key. LooksWithin call.now.ssas (W.seen walk.old) (W.seen walk.new) (λ rows. 2 + rows_under key (plain_view schema.now rows))) }
+    ensures within { IsWithinRecord schema.now call.now (W.seen walk.old) (W.seen walk.new) }
     ensures looked { LooksOn (IsErrOf result WalkFault.Failed) (W.seen walk.old) (W.seen walk.new) }
 {
     if is_unique(call) {
@@ -66,7 +66,7 @@ fn first_of_all<W: Walk>(
     ensures got { IfOk result (IsGiven schema.now call.now.ssas (W.seen walk.old) (λ view. find (meets schema.now None view call.now.ssas) (on_paths view))) }
     ensures few { length call.now.ssas == 0 ≡ true → (W.seen walk.new).looks ≤ (W.seen walk.old).looks + 1 }
     ensures keyed { is_some (keyed_by schema.now call.now) ≡ true → (W.seen walk.new).looks ≤ (W.seen walk.old).looks + 1 }
-    ensures within { IfSome (keyed_path schema.now call.now) (λ key. LooksWithin call.now.ssas (W.seen walk.old) (W.seen walk.new) (λ rows. 2 + rows_under key (plain_view schema.now rows))) }
+    ensures within { IsWithinRecord schema.now call.now (W.seen walk.old) (W.seen walk.new) }
     ensures looked { LooksOn (IsErrOf result WalkFault.Failed) (W.seen walk.old) (W.seen walk.new) }
 {
     places_differ();
@@ -130,12 +130,15 @@ fn first_below_root<W: Walk>(
     requires live { IsTrue (W.seen walk.old).live }
     requires schema { (W.seen walk.old).schema ≡ schema.now }
     requires shown { IsShown schema.now (W.seen walk.old) root }
+    requires top { ForSome (W.seen walk.old).forest (λ rows. root.level ≡ 1) }
     ensures met { IfOk result (IsGot schema.now (W.seen walk.old) (λ view. met_from schema.now view ssas.now (Some 1) (root ∷ []) (first_behind root.at view))) }
     ensures few { LooksWithin ssas.now (W.seen walk.old) (W.seen walk.new)
         (λ rows. let view = plain_view schema.now rows in 1 + inside_ahead (Some 1) (from_on view (first_behind root.at view))) }
     ensures looked { LooksOn (IsErrOf result WalkFault.Failed) (W.seen walk.old) (W.seen walk.new) }
 {
     places_differ();
+    roots_are_keyed();
+    types_go_down();
     let next = walk.after(None, &root.at)?;
     let mut path = Vec::new(alloc);
     join(&mut path, root)?;
@@ -210,6 +213,7 @@ fn first_from<W: Walk>(
     ensures looked { LooksOn (IsErrOf result WalkFault.Failed) (W.seen walk.old) (W.seen walk.new) }
 {
     places_differ();
+    types_go_down();
     let first = walk.after(None, at)?;
     first_met(walk, schema, ssas, top, path, first)
 }

@@ -4,15 +4,17 @@ ghost use Rattle.std.specs.List.{list_any, last_or};
 ghost use Rattle.std.specs.Option.{ForSome, option_copied, option_map_or};
 ghost use Rattle.call_gets.specs.declared.judged.Verdict.TheVariants.{Meets, Open};
 ghost use Rattle.dli_calls.specs.Meets.{clauses_hold, is_of, later_twins};
-ghost use Rattle.dli_calls.specs.Ssas.{asks_last, clause_holds};
-ghost use Rattle.call_gets.specs.Scan.{AreShown, Holds, IsOn, IsShown, IsVerdict, LooksOn, of_ssa, plain_view};
+ghost use Rattle.dli_calls.specs.Ssas.{asks_last, clause_holds, code_named};
+ghost use Rattle.dli_calls.specs.Refusals.{is_in_subtree};
+ghost use Rattle.call_gets.specs.Scan.{AreShown, Holds, IsOn, IsShown, IsVerdict, LooksOn, may_lead, of_ssa, plain_view};
 
 use crate::clauses::clauses_hold;
 use crate::form::{asks_last, last_of};
 use crate::names::code_named;
+use crate::path::is_in_subtree;
 use call_text::Ssa;
 use hal_base::Memory;
-use hal_schema::Schema;
+use hal_schema::{Schema, schemas_are_kept};
 use position_state::{Spot, Walk, WalkFault};
 use view_laws::{levels_are_of_types, places_differ};
 
@@ -40,6 +42,10 @@ pub(crate) fn judge<W: Walk>(
     ensures few { list_any asks_last ssas.now ≡ false → (W.seen walk.new).looks ≤ (W.seen walk.old).looks }
     ensures looked { LooksOn (IsErrOf result WalkFault.Failed) (W.seen walk.old) (W.seen walk.new) }
 {
+    schemas_are_kept();
+    if !may_lead(schema, ssas, spot.code) {
+        return Ok(Verdict::Closed);
+    }
     let mut all = true;
     for ssa in ssas {
         let on = holds_on(walk, schema, ssa, above, spot)?;
@@ -52,6 +58,25 @@ pub(crate) fn judge<W: Walk>(
         return Ok(Verdict::Open);
     }
     Ok(by_type(is_last(schema, ssas, spot)))
+}
+
+/// Whether the last SSA's type is that of a code, or below it.
+fn may_lead(schema: &Schema, ssas: &[Ssa], code: u8) -> bool
+    ensures { result ≡ may_lead schema.now ssas.now code }
+{
+    match last_of(ssas) {
+        None => true,
+        Some(ssa) => leads_to(schema, code, ssa),
+    }
+}
+
+fn leads_to(schema: &Schema, code: u8, ssa: &Ssa) -> bool
+    ensures { result ≡ option_map_or (is_in_subtree schema.now code) (code_named schema.now ssa.now.seg) false }
+{
+    match code_named(schema, ssa.seg) {
+        None => false,
+        Some(last) => is_in_subtree(schema, code, last),
+    }
 }
 
 fn is_against(on: Option<bool>) -> bool

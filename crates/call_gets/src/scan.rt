@@ -3,7 +3,7 @@ ghost use Rattle.std.specs.Prelude.{◌≡◌, ◌≤◌, ◌+◌, ◌∷◌, �
 ghost use Rattle.std.specs.List.{list_any};
 ghost use Rattle.std.specs.Option.{ForSome};
 ghost use Rattle.dli_calls.specs.Ssas.{asks_last};
-ghost use Rattle.call_gets.specs.Scan.{AreShown, IsFirstMet, IsNearer, LooksOn, LooksWithin, Steps, from_on, inside_ahead, is_inside, plain_view};
+ghost use Rattle.call_gets.specs.Scan.{AllGoDown, AreShown, IsFirstMet, IsNearer, LooksOn, LooksWithin, Steps, from_on, inside_ahead, is_inside, plain_view};
 
 use crate::judged::{Verdict, judge};
 use call_text::Ssa;
@@ -26,8 +26,8 @@ enum Step {
 }
 
 /// The first element that meets the SSAs, from this one on, which stands behind an element of this path. Where a level is
-/// given, the scan goes no further than what is deeper. It passes over all that is below an element that fails, so it
-/// keeps one path in memory and looks at nothing that can't meet.
+/// given, the scan goes no further than what is deeper. It passes over all that is below an element that fails, or
+/// whose type doesn't lead to the last SSA's, so it keeps one path in memory and looks at nothing that can't meet.
 pub(crate) fn first_met<W: Walk>(
     walk: &mut W,
     schema: &Schema,
@@ -39,6 +39,7 @@ pub(crate) fn first_met<W: Walk>(
     requires live { IsTrue (W.seen walk.old).live }
     requires schema { (W.seen walk.old).schema ≡ schema.now }
     requires shown { AreShown schema.now (W.seen walk.old) path.items first }
+    requires down { ForSome (W.seen walk.old).forest (λ rows. AllGoDown schema.now (plain_view schema.now rows) path.items first) }
     ensures met { IfOk result (IsFirstMet schema.now (W.seen walk.old) ssas.now top path.items first) }
     ensures few { LooksWithin ssas.now (W.seen walk.old) (W.seen walk.new) (λ rows. inside_ahead top (from_on (plain_view schema.now rows) first)) }
     ensures looked { LooksOn (IsErrOf result WalkFault.Failed) (W.seen walk.old) (W.seen walk.new) }
@@ -81,6 +82,7 @@ fn move_on<W: Walk>(
     requires live { IsTrue (W.seen walk.old).live }
     requires schema { (W.seen walk.old).schema ≡ schema.now }
     requires shown { AreShown schema.now (W.seen walk.old) path.old.items (Some spot) }
+    requires down { ForSome (W.seen walk.old).forest (λ rows. AllGoDown schema.now (plain_view schema.now rows) path.old.items (Some spot)) }
     requires inside { is_inside top spot ≡ true }
     ensures step { IfOk result (Steps schema.now (W.seen walk.old) ssas.now top path.old.items spot path.new.items) }
     ensures nearer { IfOk result (λ step. IfSome (W.seen walk.old).forest (λ rows. IsNearer top (plain_view schema.now rows) spot step)) }

@@ -1,12 +1,14 @@
-use Rattle.std.proofs.Common.{◌≡◌, ℕ, ◌+◌, ◌≤◌, [], ◌∷◌, ◌++◌, List, Option, Some, refl, sym, ap, ◌∙◌, arith}
+use Rattle.std.proofs.Common.{◌≡◌, ℕ, ◌+◌, ◌≤◌, true, [], ◌∷◌, ◌++◌, List, Option, Some, refl, sym, ap, ◌∙◌, arith}
 use Rattle.std.specs.Option.{option_map}
 use Rattle.hal_schema.specs.declared.row.Row.{Row}
+use Rattle.hal_schema.specs.declared.schema.Schema.{Schema}
+use Rattle.hal_schema.specs.Forest.{is_forest}
 use Rattle.position_state.specs.declared.spot.Spot.{Spot}
 use Rattle.position_state.specs.Looks.{first_behind}
 use Rattle.call_gets.specs.Scan.{IsFirstMet, IsGot, from_on, inside_ahead, met_from, on_its_path, plain_view}
-use Rattle.call_gets.proofs.ByRecord.{alone_shown}
+use Rattle.call_gets.proofs.ByRecord.{alone_shown, down_alone}
 use Rattle.call_gets.proofs.Finding.{if_ok}
-use Rattle.call_gets.proofs.Looking.{where_told, told_at, shows_for, stands_at, differ_told, one_more}
+use Rattle.call_gets.proofs.Looking.{where_told, told_at, shows_for, stands_at, differ_told, forest_at, one_more}
 use Rattle.call_gets.proofs.Stepping.{place_of_found}
 use Rattle.call_gets.proofs.gets.first_below_root.Goals as goal
 
@@ -69,3 +71,14 @@ returns-in_err-join-clause-few g c = λ h.
     let new = g.W.Walk.seen c.after.new.self in
     where_told a.forest (λ (rows : List Row). new.looks ≤ a.looks + (1 + inside_ahead (Some 1) (from_on (plain_view c.args.schema.now rows) (first_behind c.args.root.at (plain_view c.args.schema.now rows)))))
     (λ rows k. omega (arith, one_more c.after.ensures.looked))
+
+pub first_met-requires-clause-down : goal.first_met-requires-clause-down
+first_met-requires-clause-down g c = λ rows e.
+    let a = g.W.Walk.seen c.args.walk.now in
+    let schema = c.args.schema.now in
+    let k = sym c.after.ensures.looked.forest ∙ e in
+    let forest : is_forest schema rows ≡ true = ap (λ (s : Schema). is_forest s rows) (sym c.requires.schema) ∙ forest_at a rows (g.met.W.Walk.keeps_forest c.args.walk.now) k in
+    down_alone schema (plain_view schema rows) c.args.root c.join.new.path.items c.in_ok-next.next (differ_told c.places_differ.ensures a schema rows (g.met.W.Walk.keeps_forest c.args.walk.now) c.requires.schema k)
+    (c.requires.shown rows k) (c.requires.top rows k) (c.in_ok-join.ensures ∙ ap (λ (ys : List Spot). ys ++ c.args.root ∷ []) c.new-path.ensures.items)
+    (shows_for a a schema rows (first_behind c.args.root.at) c.in_ok-next.next refl refl c.requires.schema k c.in_ok-next.ensures.shows)
+    (c.roots_are_keyed.ensures schema rows forest) (c.types_go_down.ensures schema rows forest)

@@ -8,7 +8,7 @@ use Rattle.position_state.specs.declared.spot.Spot.{Spot}
 use Rattle.position_state.specs.Looks.{first_behind, root_of_key}
 use Rattle.call_gets.specs.Keyed.{met_in_record, rows_under}
 use Rattle.call_gets.specs.Scan.{IsGot, from_on, inside_ahead, met_from, on_its_path, plain_view}
-use Rattle.call_gets.proofs.ByRecord.{record_bound, root_found}
+use Rattle.call_gets.proofs.ByRecord.{record_bound, root_found, root_is_top}
 use Rattle.call_gets.proofs.Finding.{if_ok}
 use Rattle.call_gets.proofs.Looking.{where_told, told_at, shows_for, differ_told, forest_at, one_more}
 use Rattle.call_gets.proofs.gets.first_in_record.Goals as goal
@@ -75,3 +75,11 @@ returns-in-Some-clause-within g c = λ h.
     (c.roots_are_keyed.ensures schema rows forest) (c.records_stand_together.ensures schema rows forest)
     (ap (λ key. root_of_key key view) (sym c.as_slice.ensures) ∙ sym (shows_for a a schema rows (root_of_key c.as_slice.result.now) c.in_ok-at_root.field-0 refl refl c.requires.schema k c.in_ok-at_root.ensures.shows) ∙ c.in-Some.is) in
     omega (arith, few, bound, one_more c.at_root.ensures.looked))
+
+pub first_below_root-requires-clause-top : goal.first_below_root-requires-clause-top
+first_below_root-requires-clause-top g c = λ rows e.
+    let a = g.W.Walk.seen c.args.walk.now in
+    let schema = c.args.schema.now in
+    let k = sym c.at_root.ensures.looked.forest ∙ e in
+    root_is_top (plain_view schema rows) c.as_slice.result.now c.in-Some.root
+    (sym (shows_for a a schema rows (root_of_key c.as_slice.result.now) c.in_ok-at_root.field-0 refl refl c.requires.schema k c.in_ok-at_root.ensures.shows) ∙ c.in-Some.is)

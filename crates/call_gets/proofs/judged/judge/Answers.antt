@@ -4,6 +4,7 @@ use Rattle.position_state.specs.declared.walk.WalkFault.TheVariants.{Failed}
 use Rattle.call_gets.specs.declared.judged.Verdict.TheVariants.{Closed}
 use Rattle.call_gets.specs.Scan.{IsOn, IsVerdict, plain_view}
 use Rattle.call_gets.proofs.Judging.{AllSoFar, closed_on, none_last, so_far}
+use Rattle.call_gets.proofs.Leading.{closed_by_type}
 use Rattle.call_gets.proofs.Listing.{left_is}
 use Rattle.call_gets.proofs.Looking.{on_then, on_as, ok_not_err, where_told, told_at, told_after}
 use Rattle.call_gets.proofs.judged.judge.Goals as goal
@@ -52,3 +53,12 @@ returns-then-is_against-clause-few g c = λ h.
 pub returns-in_err-on-clause-few : goal.returns-in_err-on-clause-few
 returns-in_err-on-clause-few g c = λ h.
     omega (arith, c.loop-ssa.invariant.few h, c.holds_on.ensures.few (none_last c.args.ssas.now c.loop-ssa.ssa-index c.ssa-item.result h c.loop-ssa-test.true c.ssa-item.is))
+
+-- a type that doesn't lead to the last SSA's is closed
+
+pub returns-then-not-may_lead-clause-verdict : goal.returns-then-not-may_lead-clause-verdict
+returns-then-not-may_lead-clause-verdict g c =
+    let a = g.W.Walk.seen c.args.walk.now in
+    let schema = c.args.schema.now in
+    where_told a.forest (λ (rows : List Row). IsVerdict schema (plain_view schema rows) c.args.ssas.now (c.args.above.now ++ c.args.spot.now ∷ []) c.args.spot.now Closed)
+    (λ rows e. closed_by_type schema (c.schemas_are_kept.ensures schema) (plain_view schema rows) c.args.ssas.now c.args.above.now c.args.spot.now (sym c.may_lead.ensures ∙ c.if-not-may_lead.true))

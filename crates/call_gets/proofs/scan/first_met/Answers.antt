@@ -5,7 +5,7 @@ use Rattle.position_state.specs.declared.walk.WalkFault.TheVariants.{Failed}
 use Rattle.call_gets.specs.declared.scan.Step.{Step}
 use Rattle.call_gets.specs.Scan.{IsNearer, IsStep, from_on, inside_ahead, met_from, plain_view}
 use Rattle.call_gets.proofs.Looking.{on_none, on_then, on_as, ok_not_err, one_fault, where_told, told_at, told_after}
-use Rattle.call_gets.proofs.Moving.{Moved, ahead_end, ahead_on, moved_found, moved_on}
+use Rattle.call_gets.proofs.Moving.{Moved, ahead_end, ahead_on, moved_down, moved_found, moved_on}
 use Rattle.call_gets.proofs.scan.first_met.Goals as goal
 
 pub loop-step-init : goal.loop-step-init
@@ -17,7 +17,7 @@ loop-step-init g c =
       looked = on_none a c.requires.live (λ never. never);
       few = λ h. where_told a.forest (λ (rows : List Row). let n : ℕ = inside_ahead c.args.top (from_on (plain_view schema rows) c.args.first) in a.looks + n ≤ a.looks + n) (λ rows e. omega arith);
       moved = where_told a.forest (λ (rows : List Row). Moved schema (plain_view schema rows) c.args.ssas.now c.args.top c.args.path.items c.args.first c.args.path.items c.args.first)
-          (λ rows e. record { same = refl; found = c.requires.shown rows e });
+          (λ rows e. record { same = refl; found = c.requires.shown rows e; down = c.requires.down rows e });
     }
 
 pub move_on-requires-clause-shown : goal.move_on-requires-clause-shown
@@ -26,6 +26,15 @@ move_on-requires-clause-shown g c = λ rows e.
     let schema = c.args.schema.now in
     let i = c.loop-step.invariant in
     moved_found schema (plain_view schema rows) c.args.ssas.now c.args.top c.args.path.items c.args.first c.loop-step.path.items c.loop-step.next c.in-Some.spot
+    (told_at a.forest rows (λ (r : List Row). Moved schema (plain_view schema r) c.args.ssas.now c.args.top c.args.path.items c.args.first c.loop-step.path.items c.loop-step.next) (sym i.looked.forest ∙ e) i.moved)
+    c.in-Some.is
+
+pub move_on-requires-clause-down : goal.move_on-requires-clause-down
+move_on-requires-clause-down g c = λ rows e.
+    let a = g.W.Walk.seen c.args.walk.now in
+    let schema = c.args.schema.now in
+    let i = c.loop-step.invariant in
+    moved_down schema (plain_view schema rows) c.args.ssas.now c.args.top c.args.path.items c.args.first c.loop-step.path.items c.loop-step.next c.in-Some.spot
     (told_at a.forest rows (λ (r : List Row). Moved schema (plain_view schema r) c.args.ssas.now c.args.top c.args.path.items c.args.first c.loop-step.path.items c.loop-step.next) (sym i.looked.forest ∙ e) i.moved)
     c.in-Some.is
 

@@ -38,7 +38,7 @@ returns-in_ok-past-in-Closed-clause-step g c =
     let above = c.leave.new.path.items in
     where_told a.forest (λ (rows : List Row). IsStep schema (plain_view schema rows) c.args.ssas.now c.args.top (met_from schema (plain_view schema rows) c.args.ssas.now c.args.top old (Some c.args.spot)) above (GoesOn c.in_ok-past-in-Closed.field-0))
     (λ rows e. step_closed schema (plain_view schema rows) c.args.ssas.now c.args.top old above c.args.spot c.in_ok-past-in-Closed.field-0
-    (differ_told c.places_differ.ensures a schema rows (g.met.W.Walk.keeps_forest c.args.walk.now) c.requires.schema e) c.requires.inside c.leave.ensures (c.requires.shown rows e)
+    (differ_told c.places_differ.ensures a schema rows (g.met.W.Walk.keeps_forest c.args.walk.now) c.requires.schema e) c.requires.inside c.leave.ensures (c.requires.shown rows e) (c.requires.down rows e)
     (subst (λ (v : Verdict). IsVerdict schema (plain_view schema rows) c.args.ssas.now (above ++ c.args.spot ∷ []) c.args.spot v) c.in-Closed.is
     (subst (λ (ys : List Spot). IsVerdict schema (plain_view schema rows) c.args.ssas.now (ys ++ c.args.spot ∷ []) c.args.spot c.in_ok-judge.field-0) c.deref.ensures.value
     (told_at a.forest rows (λ (r : List Row). IsVerdict schema (plain_view schema r) c.args.ssas.now (c.deref.result.now ++ c.args.spot ∷ []) c.args.spot c.in_ok-judge.field-0) e c.in_ok-judge.ensures.verdict)))
@@ -53,7 +53,7 @@ returns-in_ok-join-in-Open-clause-step g c =
     let above = c.leave.new.path.items in
     where_told a.forest (λ (rows : List Row). IsStep schema (plain_view schema rows) c.args.ssas.now c.args.top (met_from schema (plain_view schema rows) c.args.ssas.now c.args.top old (Some c.args.spot)) c.join.new.path.items (GoesOn c.in_ok-next-in-Open.next))
     (λ rows e. step_open schema (plain_view schema rows) c.args.ssas.now c.args.top old above c.join.new.path.items c.args.spot c.in_ok-next-in-Open.next
-    (differ_told c.places_differ.ensures a schema rows (g.met.W.Walk.keeps_forest c.args.walk.now) c.requires.schema e) c.requires.inside c.leave.ensures (c.requires.shown rows e)
+    (differ_told c.places_differ.ensures a schema rows (g.met.W.Walk.keeps_forest c.args.walk.now) c.requires.schema e) c.requires.inside c.leave.ensures (c.requires.shown rows e) (c.requires.down rows e)
     (subst (λ (v : Verdict). IsVerdict schema (plain_view schema rows) c.args.ssas.now (above ++ c.args.spot ∷ []) c.args.spot v) c.in-Open.is
     (subst (λ (ys : List Spot). IsVerdict schema (plain_view schema rows) c.args.ssas.now (ys ++ c.args.spot ∷ []) c.args.spot c.in_ok-judge.field-0) c.deref.ensures.value
     (told_at a.forest rows (λ (r : List Row). IsVerdict schema (plain_view schema r) c.args.ssas.now (c.deref.result.now ++ c.args.spot ∷ []) c.args.spot c.in_ok-judge.field-0) e c.in_ok-judge.ensures.verdict)))
