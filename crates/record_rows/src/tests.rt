@@ -1,11 +1,9 @@
-// Roots, dependents, a replaced content and spans that are cut out, on a side of three levels.
+// Roots, dependents, new rows, a replaced content and spans that are cut out, on a side of three levels.
 ghost use Rattle.std.specs.Prelude.{◌≡◌, ◌<◌, ◌≤◌, false, length, IfOk};
 
 use crate::{
-    changes_content, cuts_leaf, cuts_middle_twin, cuts_record, finds_dependents, finds_roots,
-    is_laid_out, retires_record,
-    appends_a_row, changes_content, finds_dependents, finds_roots, grows_levels, grows_twins,
-    is_laid_out,
+    appends_a_row, changes_content, cuts_leaf, cuts_middle_twin, cuts_record, finds_dependents,
+    finds_roots, grows_levels, grows_twins, is_laid_out, retires_record,
 };
 use dbd_reader::read_dbd;
 use hal_schema::{RawSchema, Schema};
@@ -65,22 +63,36 @@ fn a_content_is_replaced(rt: HostRuntime) -> Result<(), Fail> {
 #[test]
 fn spans_are_cut(rt: HostRuntime) -> Result<(), Fail> {
     let schema = schema_of(rt.alloc())?;
-    let mut shelf = QuietShelf::new(rt.alloc(), 8);
-    assert!(rt; grows_levels(rt.alloc(), &mut shelf, &schema));
+    let mut shelf = laid_out(rt.alloc())?;
     assert!(rt; cuts_leaf(rt.alloc(), &mut shelf, &schema));
+    let mut shelf = laid_out(rt.alloc())?;
     assert!(rt; cuts_middle_twin(rt.alloc(), &mut shelf, &schema));
-fn rows_are_inserted(rt: HostRuntime) -> Result<(), Fail> {
     Ok(())
 }
 
 #[test]
 fn records_are_cut(rt: HostRuntime) -> Result<(), Fail> {
     let schema = schema_of(rt.alloc())?;
+    let mut shelf = laid_out(rt.alloc())?;
+    assert!(rt; cuts_record(rt.alloc(), &mut shelf, &schema));
+    let mut shelf = laid_out(rt.alloc())?;
+    assert!(rt; retires_record(rt.alloc(), &mut shelf, &schema));
+    Ok(())
+}
+
+#[test]
+fn rows_are_inserted(rt: HostRuntime) -> Result<(), Fail> {
+    let schema = schema_of(rt.alloc())?;
+    let mut shelf = QuietShelf::new(rt.alloc(), 8);
+    assert!(rt; grows_levels(rt.alloc(), &mut shelf, &schema));
+    Ok(())
+}
+
+#[test]
+fn rows_are_loaded_and_appended(rt: HostRuntime) -> Result<(), Fail> {
+    let schema = schema_of(rt.alloc())?;
     let mut shelf = QuietShelf::new(rt.alloc(), 8);
     assert_eq!(rt; grows_twins(rt.alloc(), &mut shelf, &schema), Ok(300));
     assert!(rt; appends_a_row(rt.alloc(), &mut shelf, &schema));
-    assert!(rt; cuts_record(rt.alloc(), &mut shelf, &schema));
-    assert!(rt; retires_record(rt.alloc(), &mut shelf, &schema));
-fn rows_are_loaded_and_appended(rt: HostRuntime) -> Result<(), Fail> {
     Ok(())
 }
