@@ -1,7 +1,7 @@
 #!/bin/sh
 # Prints how many microseconds the insertion of a root and of a dependent takes, over a site in memory, in a partition that
 # has 1,000 roots and in one that has 100,000. It is no test, and claims nothing. The program is built with checks, so the
-# lines are to be compared with one another. 100,000 roots take it half an hour and more.
+# lines are to be compared with one another. 100,000 roots take it long.
 #
 #     bench/records.sh [ROOTS..]
 set -eu
