@@ -142,7 +142,7 @@ const OF_FIFTEEN_LEVELS: [Case; 8] = [
 ];
 
 /// Over 1,000 records of four elements each.
-const LOOKS: [Counted; 9] = [
+const LOOKS: [Counted; 11] = [
     ("S GU R(K='500')", 1),
     ("S GU R(K='500') C(CK='02')", 6),
     ("S GU R(K='500') C(CK='09')", 6),
@@ -152,6 +152,8 @@ const LOOKS: [Counted; 9] = [
     ("S GNP C(CK='02')", 4),
     ("S GN R(K='700')", 203),
     ("S GU C(CV='zz')", 3_002),
+    ("S GU R(K='500')", 1),
+    ("S GN R", 5),
 ];
 
 /// The first of these lines whose reply isn't so, in a session with these options.
