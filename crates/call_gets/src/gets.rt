@@ -20,7 +20,9 @@ use hal_base::Bytes;
 use hal_schema::Schema;
 use position_state::{Anchor, Session, Spot, Walk, WalkFault};
 use std::alloc::Global;
-use view_laws::{places_differ, records_stand_together, roots_are_keyed, roots_rise, types_go_down};
+use view_laws::{
+    places_differ, records_stand_together, roots_are_keyed, roots_rise, types_go_down,
+};
 
 /// The element that a get finds, with its path: GU looks at the whole view, GN behind the position, and GNP at what of
 /// that is below the parent.
