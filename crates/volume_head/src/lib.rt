@@ -1,4 +1,4 @@
-//! The head and the definition of a volume, read and written.
+//! The head and the definition of a volume, read.
 //!
 //! - `definition.rt`: the canonical text of a schema, both ways;
 //! - `fault.rt`: why no definition was read;
