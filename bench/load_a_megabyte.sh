@@ -8,7 +8,7 @@ set -eu
 top=$(cd "$(dirname "$0")/.." && pwd)
 work=$(mktemp -d)
 trap 'rm -rf "$work"' EXIT
-crates="hal_base hal_schema partition_select forest_laws hal_loader dbd_reader partition_reader load_rows"
+crates="hal_base hal_schema forest_laws hal_loader dbd_reader partition_reader load_rows"
 for name in $crates; do
     mkdir -p "$work/crates"
     cp -r "$top/crates/$name" "$work/crates/"

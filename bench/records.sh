@@ -8,7 +8,7 @@ set -eu
 top=$(cd "$(dirname "$0")/.." && pwd)
 work=$(mktemp -d)
 trap 'rm -rf "$work"' EXIT
-crates="hal_base hal_schema hal_disk block_journal segment_blocks free_space keyed_sets partition_select forest_laws
+crates="hal_base hal_schema hal_disk block_journal segment_blocks free_space keyed_sets forest_laws
     record_walk record_tree volume_image data_set_pairs dbd_reader partition_reader"
 for name in $crates; do
     mkdir -p "$work/crates/$name"

@@ -16,7 +16,7 @@ use Rattle.hal_schema.specs.declared.schema.SegType.{SegType}
 use Rattle.hal_schema.specs.Entry.{Entry, entries_of, is_taken}
 use Rattle.hal_schema.specs.Paths.{paths_of}
 use Rattle.hal_schema.specs.Row.{same_name}
-use Rattle.hal_schema.specs.SegType.{type_of}
+use Rattle.hal_schema.specs.SegType.{key_in, type_of}
 use Rattle.hal_schema.specs.Span.{keeps_freely, may_replace}
 use Rattle.hal_schema.proofs.RowNames.{name_is, name_from}
 use Rattle.call_text.specs.declared.line.Call.{Call}
@@ -37,7 +37,7 @@ use Rattle.dli_calls.specs.Changes.{content_for, content_or_none, held_code, hel
 use Rattle.dli_calls.specs.Ssas.{fitted}
 use Rattle.dli_calls.specs.Decided.{decision_of, held_change}
 use Rattle.dli_calls.specs.Refusals.{first_that_holds, text_refusals, has_no_data, changes_key, takes_key, need_of, refusal_of}
-use Rattle.call_changes.specs.Moves.{MayHave, key_in, key_of_entry, moved_entries, moved_key, moves_freely, replaced_by, replaced_row, row_at}
+use Rattle.call_changes.specs.Moves.{MayHave, key_of_entry, moved_entries, moved_key, moves_freely, replaced_by, replaced_row, row_at}
 use Rattle.call_changes.specs.Outcome.{carried, refused_with, replacement_of}
 use Rattle.call_changes.proofs.Deciding.{IsOther, Says, table, refusal_is, decided_refused, decided_room, is_carried}
 
@@ -46,7 +46,7 @@ OnPath = List Row × Row
 
 -- ---- tests either way
 
-same_bool : (a b : Bool) → (a ≡ true → b ≡ true) → (b ≡ true → a ≡ true) → a ≡ b
+pub same_bool : (a b : Bool) → (a ≡ true → b ≡ true) → (b ≡ true → a ≡ true) → a ≡ b
 same_bool true true f g = refl
 same_bool true false f g = sym (f refl)
 same_bool false true f g = g refl
@@ -270,7 +270,7 @@ fitted_long bytes (Hex text) content h =
     let p = cond_some (length text == bytes) text content h in
     sym (ap length p.1) ∙ eqb-true (length text) bytes p.0
 
-content_long : (schema : Schema) (code : ℕ) (call : Call) (content : List ℕ) → content_for schema code call ≡ Some content → option_map_or (λ (t : SegType). length content == t.bytes) (type_of schema.types code) false ≡ true
+pub content_long : (schema : Schema) (code : ℕ) (call : Call) (content : List ℕ) → content_for schema code call ≡ Some content → option_map_or (λ (t : SegType). length content == t.bytes) (type_of schema.types code) false ≡ true
 content_long schema code call content h = by (type_of schema.types code) call.content h
   where
     by : (o : Option SegType) (v : Option Value) → option_and_then (λ (t : SegType). option_and_then (fitted t.bytes) v) o ≡ Some content → option_map_or (λ (t : SegType). length content == t.bytes) o false ≡ true
@@ -278,7 +278,7 @@ content_long schema code call content h = by (type_of schema.types code) call.co
     by (Some t) None k = absurd (let no : ⊥ = cc in no)
     by (Some t) (Some v) k = eq-eqb (length content) t.bytes (fitted_long t.bytes v content k)
 
-not_false : (b : Bool) → not b ≡ false → b ≡ true
+pub not_false : (b : Bool) → not b ≡ false → b ≡ true
 not_false true h = refl
 not_false false h = sym h
 

@@ -1,2 +1,5 @@
+pub mod Answer
+pub mod Inserts
+pub mod Laws
 pub mod Moves
 pub mod Outcome

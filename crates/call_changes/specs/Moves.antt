@@ -1,5 +1,5 @@
 -- The held row, and what a REPL does to its entries in the indexes.
-use Rattle.std.specs.Prelude.{◌≡◌, ℕ, ◌==◌, nat_lt, Bool, true, false, not, ◌&&◌, List, [], codes, count_by, length, is_some, Option, None, Some, IfSome, option_and_then, if◌then◌else◌}
+use Rattle.std.specs.Prelude.{◌≡◌, ℕ, ◌==◌, nat_lt, Bool, true, false, not, ◌&&◌, List, [], codes, count_by, length, is_some, Option, None, Some, IfSome, if◌then◌else◌}
 use Rattle.std.specs.List.{list_all}
 use Rattle.std.specs.Option.{option_map, option_map_or}
 use Rattle.std.specs.Str.{bytes_eq}
@@ -7,7 +7,7 @@ use Rattle.hal_schema.specs.declared.row.Row.{Row}
 use Rattle.hal_schema.specs.declared.schema.IndexDef.{IndexDef}
 use Rattle.hal_schema.specs.declared.schema.Schema.{Schema}
 use Rattle.hal_schema.specs.declared.schema.SegType.{SegType}
-use Rattle.hal_schema.specs.SegType.{portion, type_of}
+use Rattle.hal_schema.specs.SegType.{key_in, type_of}
 use Rattle.hal_schema.specs.Entry.{entry_key, entries_of, is_taken}
 use Rattle.position_state.specs.declared.session.Anchor.{Anchor}
 use Rattle.position_state.specs.declared.session.Anchor.TheVariants.{Front, At}
@@ -28,10 +28,6 @@ row_at (At name root entry) view = found_at (At name root None) view
 -- where the list is told, this is the element of the held row
 abbrev pub IsHeldRow : Schema → WalkView → Session → Option Spot → Type 0
 IsHeldRow schema seen session row = IfSome seen.forest (λ rows. row ≡ option_map (λ p. plain_element schema.types p.0 p.1) (held_row schema rows session))
-
--- the sequence field in a content of a type
-abbrev pub key_in : List SegType → ℕ → List ℕ → List ℕ
-key_in types code content = option_map_or (λ k. portion k.start k.bytes content) (option_and_then (λ t. t.key) (type_of types code)) []
 
 abbrev pub key_of_entry : IndexDef → List ℕ → List ℕ → List ℕ
 key_of_entry index content keys = option_map_or (λ key. key) (entry_key index content keys) []

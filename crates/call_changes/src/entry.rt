@@ -4,9 +4,8 @@ ghost use Rattle.hal_schema.specs.Entry.{entry_key};
 ghost use Rattle.hal_schema.specs.SegType.{portion};
 ghost use Rattle.call_changes.specs.Moves.{moved_key};
 
-use crate::content::portion;
 use hal_base::{Bytes, Key, Memory};
-use hal_schema::{Field, IndexDef};
+use hal_schema::{Field, IndexDef, portion};
 use position_state::Spot;
 use std::alloc::Global;
 

@@ -73,7 +73,7 @@ pub(crate) fn reply_of(status: [u8; 2], seg: Option<SegOut>) -> Reply
 }
 
 /// Each call ends its session's hold.
-fn unheld(session: Session) -> Session
+pub(crate) fn unheld(session: Session) -> Session
     ensures { result ≡ unheld session }
 {
     let mut session = session;

@@ -5,10 +5,11 @@ ghost use Rattle.std.specs.Str.{bytes_eq};
 ghost use Rattle.dli_calls.specs.Refusals.{is_replace};
 ghost use Rattle.position_state.specs.AfterChange.{LooksUpTo};
 ghost use Rattle.position_state.specs.Lawful.{Stands};
-ghost use Rattle.call_changes.specs.Moves.{MayHave, key_in, replaced_row};
+ghost use Rattle.hal_schema.specs.SegType.{key_in};
+ghost use Rattle.call_changes.specs.Moves.{MayHave, replaced_row};
 ghost use Rattle.call_changes.specs.Outcome.{IsDecision, IsLawfulIn, replacement_of};
 
-use crate::content::{content_for, key_in};
+use crate::content::content_for;
 use crate::held::held_row;
 use crate::moves::moved_entries;
 use crate::outcome::{carry_out, refused, refused_for_room};
@@ -16,7 +17,7 @@ use call_gets::text_refusal;
 use call_text::Call;
 use dli_calls::Decision;
 use hal_base::{Bytes, Memory};
-use hal_schema::Schema;
+use hal_schema::{Schema, key_in};
 use position_state::{Anchor, Change, Session, Spot, Walk, WalkFault};
 use std::alloc::Global;
 

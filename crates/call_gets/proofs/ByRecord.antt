@@ -28,7 +28,7 @@ use Rattle.dli_calls.specs.Meets.{holds_on, is_of, meets, on_paths, ssa_holds}
 use Rattle.dli_calls.specs.Gets.{OnPath, is_unique}
 use Rattle.view_laws.specs.Views.{goes_down, in_root_order, is_keyed, stand_together}
 use Rattle.call_gets.specs.Keyed.{goes_below, keyed_path, met_in_record, root_wanted, rows_under}
-use Rattle.call_gets.specs.Scan.{AllGoDown, AreFound, IsFound, LooksWithin, first_inside, from_on, inside_ahead, is_inside, plain_view}
+use Rattle.call_gets.specs.Scan.{AllGoDown, AreFound, IsFound, LooksWithin, first_inside, from_on, inside_ahead, plain_view}
 use Rattle.call_gets.proofs.ByKey.{Wants, holds_by_key, wants}
 use Rattle.call_gets.proofs.Looking.{where_told}
 use Rattle.call_gets.proofs.Rooted.{deep_of, is_root, key_alone, key_on, key_stays, keyed_next, level_off, root_alone, root_of}
@@ -266,14 +266,14 @@ found_in_record schema view call key e h o d =
 
 -- ---- the rows of the record
 
-abbrev is_under : List ℕ → Spot → Bool
+abbrev pub is_under : List ℕ → Spot → Bool
 is_under key spot = bytes_eq (root_named spot.at) key
 
 one_under : (key : List ℕ) (x : Spot) (xs : List Spot) → is_under key x ≡ true → count_by (is_under key) (x ∷ xs) ≡ 1 + count_by (is_under key) xs
 one_under key x xs e = sum_by-cons (λ x. cond (is_under key x) 1 0) x xs ∙ ap (λ b. cond b 1 0 + count_by (is_under key) xs) e
 
 -- what a scan below a root may stand at is under that root
-ahead_under : (types : List SegType) (root : List ℕ) (ys : List Spot) → list_all (is_keyed types) ys ≡ true → stand_together root ys ≡ true → inside_ahead (Some 1) ys ≤ count_by (is_under root) ys
+pub ahead_under : (types : List SegType) (root : List ℕ) (ys : List Spot) → list_all (is_keyed types) ys ≡ true → stand_together root ys ≡ true → inside_ahead (Some 1) ys ≤ count_by (is_under root) ys
 ahead_under types root [] h k = omega arith
 ahead_under types root (x ∷ xs) h k =
     let a = and_parts (is_keyed types x) (list_all (is_keyed types) xs) h in

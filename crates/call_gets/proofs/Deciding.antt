@@ -26,6 +26,7 @@ use Rattle.dli_calls.specs.Changes.{has_parent, inserted_code, held_code, held_r
 use Rattle.dli_calls.specs.declared.decision.Decision.{Decision}
 use Rattle.dli_calls.specs.Gets.{OnPath, got_status, got_segment, shown_content, after_get, name_of_type, is_get, is_next, is_unique, got}
 use Rattle.dli_calls.specs.Refusals.{allows, first_that_holds, is_insert, is_replace, text_refusals, view_refusals, refusal_of, has_no_data, asks_high_root, asks_for_high_root, inserts_high_root, finds_nothing, is_at_end, changes_key, takes_key, need_of}
+use Rattle.call_gets.specs.Shown.{is_refused_unseen}
 use Rattle.dli_calls.specs.Decided.{healing, decision_of, carried_out, refused, found, inserts, changes_held, reply_of, after_refusal}
 
 -- ---- gets are no other calls
@@ -259,3 +260,10 @@ found_is schema rows session call p status name key content reply after plain s 
     ∙ ap (λ x. G (got_status schema rows call session p.1) (name_of_type schema p.1.code) x content) k ∙ ap (λ x. G (got_status schema rows call session p.1) (name_of_type schema p.1.code) p.1.key x) c)
     ∙ ap (λ x. F (reply_of (got_status schema rows call session p.1) (Some (got_segment schema call p))) x after) (sym (no_healing schema session p.1 plain))
     ∙ ap (F (reply_of (got_status schema rows call session p.1) (Some (got_segment schema call p))) (healing session p.1)) a
+
+-- a call that none of these refuses is not refused unseen
+pub not_unseen : (schema : Schema) (session : Session) (call : Call) → Asked schema session call → is_some call.content ≡ false → (is_unique call && list_any (asks_high_root schema) call.ssas) ≡ false → is_refused_unseen schema session call ≡ false
+not_unseen schema session call q content high =
+    let asks : asks_for_high_root schema call ≡ false = ap (λ b. b && list_any (asks_high_root schema) call.ssas) (ap (λ b. is_unique call || b) q.only.insert ∙ or_false (is_unique call)) ∙ high in
+    ap (λ (o : Option (List ℕ)). (is_some o || is_some call.content) || asks_for_high_root schema call) q.text
+    ∙ ap (λ b. b || asks_for_high_root schema call) content ∙ asks

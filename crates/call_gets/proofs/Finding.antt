@@ -1,5 +1,5 @@
 -- What a scan from a place finds is what a get finds behind it.
-use Rattle.std.proofs.Common.{◌≡◌, ℕ, zero, suc, ◌+◌, drop, ◌&&◌, Bool, true, false, cond, List, [], ◌∷◌, Option, None, Some, Result, Ok, Err, refl, sym, ap, subst, ◌∙◌}
+use Rattle.std.proofs.Common.{◌≡◌, ℕ, zero, suc, ◌+◌, drop, Bool, true, false, cond, List, [], ◌∷◌, Option, None, Some, Result, Ok, Err, refl, sym, ap, subst, ◌∙◌}
 use Rattle.std.specs.Prelude.{find, filter, IfOk, IfSome, IsTrue}
 use Rattle.std.specs.List.{list_all, position_or_len}
 use Rattle.std.specs.Option.{option_map_or}
@@ -19,6 +19,7 @@ use Rattle.position_state.specs.Looks.{WalkView, found_at, first_behind, stands_
 use Rattle.dli_calls.specs.Meets.{meets, on_paths}
 use Rattle.dli_calls.specs.Gets.{OnPath, is_unique, is_next, is_below_parent, looked_at, got, paths_behind}
 use Rattle.view_laws.specs.Views.{goes_down}
+use Rattle.call_gets.specs.Passed.{passed, passed_from}
 use Rattle.call_gets.specs.Scan.{AllGoDown, AreFound, IsFound, IsPath, path_of, plain_view, first_inside, from_on, met_from, met_behind, met_below}
 use Rattle.call_gets.proofs.Stepping.{Differ, ends_any, next_of}
 use Rattle.call_gets.proofs.Skipping.{all_on, level}
@@ -27,6 +28,10 @@ use Rattle.call_gets.proofs.Routing.{routed}
 pub if_ok : {T E : Type 0} (r : Result T E) (P Q : T → Type 0) → ((x : T) → P x → Q x) → IfOk r P → IfOk r Q
 if_ok (Ok x) P Q f h = f x h
 if_ok (Err e) P Q f h = tt
+
+pub ok_any : {T E : Type 0} (r : Result T E) (Q : T → Type 0) → ((x : T) → Q x) → IfOk r Q
+ok_any (Ok x) Q f = f x
+ok_any (Err e) Q f = tt
 
 pub begins : (view : List Spot) (at : Anchor) (path : List Spot) (next : Option Spot) → Differ view → IsPath view at path → next ≡ first_behind at view → AreFound view path next
 begins view at path next d p e =
@@ -122,6 +127,10 @@ all_behind : (goes : List Spot → Bool) (at : Anchor) (ps : List OnPath) → al
 all_behind goes Front ps h = h
 all_behind goes (At name root entry) ps h = all_dropped goes (position_or_len (λ (p : OnPath). is_at (At name root entry) p.1) ps + 1) ps h
 
+pub down_at : (schema : Schema) (view : List Spot) (at : Anchor) → Differ view → is_place_of view at ≡ true → list_all (λ (p : OnPath). goes_down schema.types None p.0) (on_paths view) ≡ true
+    → all_on (goes_down schema.types None) (with_paths level (path_of at view) (behind at view)) ≡ true
+down_at schema view at d h down = let goes : List Spot → Bool = goes_down schema.types None in ap (all_on goes) (sym (paths_are view at d h)) ∙ all_behind goes at (on_paths view) down
+
 pub down_behind : (schema : Schema) (view : List Spot) (at : Anchor) (path : List Spot) (next : Option Spot) → Differ view → is_place_of view at ≡ true → IsPath view at path → next ≡ first_behind at view
     → list_all (λ (p : OnPath). goes_down schema.types None p.0) (on_paths view) ≡ true → AllGoDown schema view path next
 down_behind schema view at path next d h p e down =
@@ -129,4 +138,14 @@ down_behind schema view at path next d h p e down =
     ap (λ (o : Option Spot). all_on goes (with_paths level path (from_on view o))) e
     ∙ ap (λ (ys : List Spot). all_on goes (with_paths level path ys)) (sym (next_of view (behind at view) d (ends_any view at)).is)
     ∙ ap (λ (ys : List Spot). all_on goes (with_paths level ys (behind at view))) p.same
-    ∙ ap (all_on goes) (sym (paths_are view at d h)) ∙ all_behind goes at (on_paths view) down
+    ∙ down_at schema view at d h down
+
+-- what a scan passes that begins behind a place
+pub passes_behind : (schema : Schema) (view : List Spot) (ssas : List Ssa) (at : Anchor) (path : List Spot) (next : Option Spot) → Differ view → is_place_of view at ≡ true → IsPath view at path → next ≡ first_behind at view
+    → passed_from schema view ssas path next ≡ passed schema view ssas (paths_behind at (on_paths view))
+passes_behind schema view ssas at path next d h p e =
+    let all : List OnPath → ℕ = passed schema view ssas in
+    ap (λ (o : Option Spot). all (with_paths level path (from_on view o))) e
+    ∙ ap (λ (ys : List Spot). all (with_paths level path ys)) (sym (next_of view (behind at view) d (ends_any view at)).is)
+    ∙ ap (λ (ys : List Spot). all (with_paths level ys (behind at view))) p.same
+    ∙ ap all (sym (paths_are view at d h))

@@ -1,21 +1,26 @@
 mod Asking
-mod Below
 mod ByKey
 mod ByRecord
 mod Climbs
+mod Counting
 mod Deciding
 mod Finding
+mod Finds
 mod Giving
 mod Judging
 mod Leading
+mod Leaving
 mod Listing
-mod Looking
+pub mod Looking
 mod Moving
 mod Parting
+mod Passing
+mod Records
+mod Rising
 mod Rooted
 mod Routing
 mod Showing
 mod Skipping
-mod Stepping
+pub mod Stepping
 mod Twins
 mod Within

@@ -54,12 +54,12 @@ moved_down schema view ssas top path first now next s m e = subst (AllGoDown sch
 
 -- ---- one step
 
-path_low : (s : Spot) (old : List Spot) → list_all (λ x. nat_le x.level s.level) (path_with level old s) ≡ true
+pub path_low : (s : Spot) (old : List Spot) → list_all (λ x. nat_le x.level s.level) (path_with level old s) ≡ true
 path_low s old =
     list_all-append (λ (y : Spot). nat_le y.level s.level) (kept s.level old) (s ∷ [])
     ∙ and_from (list_all (λ (y : Spot). nat_le y.level s.level) (kept s.level old)) (nat_le s.level s.level && true) (kept_is_low s.level old) (and_from (nat_le s.level s.level) true (le-leb s.level s.level (omega arith)) refl)
 
-same_above : (s : Spot) (old : List Spot) (l : ℕ) → l ≤ s.level → kept l (path_with level old s) ≡ kept l (kept s.level old)
+pub same_above : (s : Spot) (old : List Spot) (l : ℕ) → l ≤ s.level → kept l (path_with level old s) ≡ kept l (kept s.level old)
 same_above s old l le =
     filter-append (λ (y : Spot). nat_lt y.level l) (kept s.level old) (s ∷ [])
     ∙ ap (λ b. kept l (kept s.level old) ++ cond b (s ∷ []) []) (le-ltb s.level l le)
@@ -112,7 +112,7 @@ step_closed schema view ssas top old above s next d inside e f g closed n =
           ∙ ap (λ (ys : List Spot). first_inside top test (with_paths level p ys)) q.is
           ∙ ap (λ (ys : List Spot). first_inside top test (with_paths level ys (q.deep ++ from_on view next))) (sym (append-nil p))
           ∙ skip top test goes view (kept s.level old) p s.level [] q.deep next
-          (λ l lt. kept_low s.level l p (path_low s old) lt) (same_above s old) refl q.deeper (λ x lt. deeper_inside top s x inside lt) shut q.high on
+          (λ l lt. kept_low s.level l p (path_low s old) lt) (same_above s old) refl q.deeper (λ x lt. deeper_inside top s x inside lt) (λ more x down last lt. shut more x down last) q.high on
           ∙ ap (λ (ys : List Spot). first_inside top test (with_paths level ys (from_on view next))) (sym e),
       record {
         along = subst (All (IsFound view)) (sym e) (All-filter (λ (y : Spot). nat_lt y.level s.level) (IsFound view) old f.along);

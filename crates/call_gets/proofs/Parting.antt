@@ -28,7 +28,7 @@ use Rattle.call_gets.proofs.Within.{of_level, within, gone, levels_at, along_any
 
 -- ---- paths along two lists
 
-path_join : (path xs ys : List Spot) → path_after level path (xs ++ ys) ≡ path_after level (path_after level path xs) ys
+pub path_join : (path xs ys : List Spot) → path_after level path (xs ++ ys) ≡ path_after level (path_after level path xs) ys
 path_join path [] ys = refl
 path_join path (x ∷ xs) ys = path_join (path_with level path x) xs ys
 
@@ -36,12 +36,12 @@ with_join : (path xs ys : List Spot) → with_paths level path (xs ++ ys) ≡ wi
 with_join path [] ys = refl
 with_join path (x ∷ xs) ys = ap (λ (ps : List OnPath). (path_with level path x, x) ∷ ps) (with_join (path_with level path x) xs ys)
 
-along_none : (test : Spot → Bool) (path xs : List Spot) → list_any test path ≡ false → list_any test xs ≡ false → list_any test (path_after level path xs) ≡ false
+pub along_none : (test : Spot → Bool) (path xs : List Spot) → list_any test path ≡ false → list_any test xs ≡ false → list_any test (path_after level path xs) ≡ false
 along_none test path xs a b = false_from_ne_true (list_any test (path_after level path xs)) (λ t. true≢false (sym (along_any test path xs t) ∙ or_from (list_any test path) (list_any test xs) a b))
 
 -- ---- tests along lists
 
-find_none : (test : Spot → Bool) (xs : List Spot) → find test xs ≡ None → list_any test xs ≡ false
+pub find_none : (test : Spot → Bool) (xs : List Spot) → find test xs ≡ None → list_any test xs ≡ false
 find_none test [] e = refl
 find_none test (x ∷ xs) e = by (test x) (find_none test xs) e
   where
@@ -79,14 +79,14 @@ first_parts test (x ∷ xs) s e = by (test x) refl (first_parts test xs s) e
         record { mid = x ∷ r.mid; rest = r.rest; is = ap (λ (ys : List Spot). x ∷ ys) r.is; none = or_from (test x) (list_any test r.mid) h r.none; on = r.on }
 
 -- the element of a path that is at a place
-record OnLevel (view : List Spot) (at : Anchor) (path : List Spot) (m : ℕ) : Type 0 where
-  one : Spot
-  on : is_at at one ≡ true
-  found : IsFound view one
-  any : list_any (is_at at) path ≡ true
-  same : one.level ≡ m
+pub record OnLevel (view : List Spot) (at : Anchor) (path : List Spot) (m : ℕ) : Type 0 where
+  pub one : Spot
+  pub on : is_at at one ≡ true
+  pub found : IsFound view one
+  pub any : list_any (is_at at) path ≡ true
+  pub same : one.level ≡ m
 
-on_level : (view : List Spot) (at : Anchor) (path : List Spot) (m : ℕ) → All (IsFound view) path → level_at path at ≡ Some m → OnLevel view at path m
+pub on_level : (view : List Spot) (at : Anchor) (path : List Spot) (m : ℕ) → All (IsFound view) path → level_at path at ≡ Some m → OnLevel view at path m
 on_level view at [] m all e = absurd (let no : ⊥ = cc in no)
 on_level view at (z ∷ zs) m all e = by (is_at at z) refl (on_level view at zs m (All-tail (IsFound view) z zs all)) e
   where
@@ -100,12 +100,12 @@ on_level view at (z ∷ zs) m all e = by (is_at at z) refl (on_level view at zs 
 
 -- ---- the view parted at a place
 
-record Parted (view : List Spot) (at : Anchor) : Type 0 where
-  front : List Spot
-  is : view ≡ front ++ behind at view
-  path : path_of at view ≡ path_after level [] front
+pub record Parted (view : List Spot) (at : Anchor) : Type 0 where
+  pub front : List Spot
+  pub is : view ≡ front ++ behind at view
+  pub path : path_of at view ≡ path_after level [] front
 
-parted : (view : List Spot) (at : Anchor) → Differ view → is_place_of view at ≡ true → Parted view at
+pub parted : (view : List Spot) (at : Anchor) → Differ view → is_place_of view at ≡ true → Parted view at
 parted view Front d h = record { front = []; is = refl; path = refl }
 parted view (At name root entry) d h = by (found_at (At name root entry) view) refl
   where
@@ -143,15 +143,15 @@ below_none schema view ssas at parent d h off e =
 
 -- ---- a later place
 
-record Later (view : List Spot) (at parent : Anchor) (q : Spot) : Type 0 where
-  mid : List Spot
-  rest : List Spot
-  is : behind at view ≡ mid ++ q ∷ rest
-  none : list_any (is_at parent) mid ≡ false
-  on : is_at parent q ≡ true
-  placed : (front : List Spot) → view ≡ front ++ behind at view → IsInItsPlace view (front ++ mid) q rest
+pub record Later (view : List Spot) (at parent : Anchor) (q : Spot) : Type 0 where
+  pub mid : List Spot
+  pub rest : List Spot
+  pub is : behind at view ≡ mid ++ q ∷ rest
+  pub none : list_any (is_at parent) mid ≡ false
+  pub on : is_at parent q ≡ true
+  pub placed : (front : List Spot) → view ≡ front ++ behind at view → IsInItsPlace view (front ++ mid) q rest
 
-later_parts : (view : List Spot) (at parent : Anchor) (q : Spot) → Differ view → Some q ≡ find (is_at parent) (behind at view) → Later view at parent q
+pub later_parts : (view : List Spot) (at parent : Anchor) (q : Spot) → Differ view → Some q ≡ find (is_at parent) (behind at view) → Later view at parent q
 later_parts view at parent q d e =
     let f = first_parts (is_at parent) (behind at view) q (sym e) in
     record {

@@ -35,14 +35,15 @@ last_more x (y ∷ ys) = by y ys
     by y (z ∷ zs) = by z zs
 
 -- the last of a higher level, and the path to it
-record IsUp (l : ℕ) (path front : List Spot) (u : Spot) : Type 0 where
-  first : List Spot
-  mid : List Spot
-  is : front ≡ first ++ u ∷ mid
-  high : u.level < l
-  same : kept l (path_after level path front) ≡ path_with level (path_after level path first) u
+pub record IsUp (l : ℕ) (path front : List Spot) (u : Spot) : Type 0 where
+  pub first : List Spot
+  pub mid : List Spot
+  pub is : front ≡ first ++ u ∷ mid
+  pub high : u.level < l
+  pub over : list_all (λ x. nat_le l x.level) mid ≡ true
+  pub same : kept l (path_after level path front) ≡ path_with level (path_after level path first) u
 
-abbrev Climbed : ℕ → List Spot → List Spot → Option Spot → Type 0
+abbrev pub Climbed : ℕ → List Spot → List Spot → Option Spot → Type 0
 Climbed l path front None = kept l (path_after level path front) ≡ kept l path
 Climbed l path front (Some u) = IsUp l path front u
 
@@ -52,25 +53,38 @@ kept_path l path x lt =
     (list_all-append (λ (y : Spot). nat_le y.level x.level) (kept x.level path) (x ∷ [])
     ∙ and_from (list_all (λ (y : Spot). nat_le y.level x.level) (kept x.level path)) (nat_le x.level x.level && true) (kept_is_low x.level path) (and_from (nat_le x.level x.level) true (le-leb x.level x.level (omega arith)) refl)) lt
 
-kept_over : (l : ℕ) (path : List Spot) (x : Spot) → l ≤ x.level → kept l (path_with level path x) ≡ kept l path
+pub kept_over : (l : ℕ) (path : List Spot) (x : Spot) → l ≤ x.level → kept l (path_with level path x) ≡ kept l path
 kept_over l path x le =
     filter-append (λ (y : Spot). nat_lt y.level l) (kept x.level path) (x ∷ [])
     ∙ ap (λ b. kept l (kept x.level path) ++ cond b (x ∷ []) []) (le-ltb x.level l le)
     ∙ append-nil (kept l (kept x.level path)) ∙ kept_kept l x.level path le
 
-climb : (l : ℕ) (path front : List Spot) → Climbed l path front (last_or None (kept l front))
+-- where none is of a higher level, all are of this one or deeper
+none_higher : (l : ℕ) (xs : List Spot) → last_or None (kept l xs) ≡ None → list_all (λ x. nat_le l x.level) xs ≡ true
+none_higher l [] e = refl
+none_higher l (x ∷ xs) e = by (nat_lt x.level l) refl e (none_higher l xs)
+  where
+    some : (y : Spot) (ys : List Spot) → last_or (Some y) ys ≡ None → ⊥
+    some y [] k = let no : ⊥ = cc in no
+    some y (z ∷ ys) k = some z ys k
+
+    by : (b : Bool) → nat_lt x.level l ≡ b → last_or None (cond b (x ∷ kept l xs) (kept l xs)) ≡ None → (last_or None (kept l xs) ≡ None → list_all (λ x. nat_le l x.level) xs ≡ true) → list_all (λ x. nat_le l x.level) (x ∷ xs) ≡ true
+    by true h k rest = absurd (some x (kept l xs) k)
+    by false h k rest = and_from (nat_le l x.level) (list_all (λ x. nat_le l x.level) xs) (le-leb l x.level (ltb-false x.level l h)) (rest k)
+
+pub climb : (l : ℕ) (path front : List Spot) → Climbed l path front (last_or None (kept l front))
 climb l path [] = refl
 climb l path (x ∷ xs) = by (nat_lt x.level l) refl (last_or None (kept l xs)) refl (climb l (path_with level path x) xs)
   where
     onward : (u : Spot) → IsUp l (path_with level path x) xs u → IsUp l path (x ∷ xs) u
-    onward u r = record { first = x ∷ r.first; mid = r.mid; is = ap (λ (ys : List Spot). x ∷ ys) r.is; high = r.high; same = r.same }
+    onward u r = record { first = x ∷ r.first; mid = r.mid; is = ap (λ (ys : List Spot). x ∷ ys) r.is; high = r.high; over = r.over; same = r.same }
 
     by : (b : Bool) → nat_lt x.level l ≡ b → (o : Option Spot) → last_or None (kept l xs) ≡ o → Climbed l (path_with level path x) xs o
         → Climbed l path (x ∷ xs) (last_or None (cond b (x ∷ kept l xs) (kept l xs)))
     by true h None e rest =
         let lt : x.level < l = ltb-true x.level l h in
         subst (Climbed l path (x ∷ xs)) (sym (last_more x (kept l xs) ∙ ap (λ o. option_or o (Some x)) e))
-        (let up : IsUp l path (x ∷ xs) x = record { first = []; mid = xs; is = refl; high = lt; same = rest ∙ kept_path l path x lt } in up)
+        (let up : IsUp l path (x ∷ xs) x = record { first = []; mid = xs; is = refl; high = lt; over = none_higher l xs e; same = rest ∙ kept_path l path x lt } in up)
     by true h (Some u) e rest = subst (Climbed l path (x ∷ xs)) (sym (last_more x (kept l xs) ∙ ap (λ o. option_or o (Some x)) e)) (onward u rest)
     by false h None e rest = subst (Climbed l path (x ∷ xs)) (sym e) (rest ∙ kept_over l path x (ltb-false x.level l h))
     by false h (Some u) e rest = subst (Climbed l path (x ∷ xs)) (sym e) (onward u rest)

@@ -91,13 +91,13 @@ last_end o [] (z ∷ zs) x = last_end (Some z) [] zs x
 last_end o (y ∷ ys) zs x = last_end (Some y) ys zs x
 
 -- an element behind a path, where the path goes on with what is deeper than its own end
-record Deeper (path more : List Spot) (m : ℕ) (x : Spot) : Type 0 where
-  more' : List Spot
-  next : path_with level (path ++ more) x ≡ path ++ more'
-  deeper : list_all (λ x. nat_lt m x.level) more' ≡ true
-  last : last_or None (path ++ more') ≡ Some x
+pub record Deeper (path more : List Spot) (m : ℕ) (x : Spot) : Type 0 where
+  pub more' : List Spot
+  pub next : path_with level (path ++ more) x ≡ path ++ more'
+  pub deeper : list_all (λ x. nat_lt m x.level) more' ≡ true
+  pub last : last_or None (path ++ more') ≡ Some x
 
-deeper_on : (path : List Spot) (m : ℕ) (more : List Spot) (x : Spot) → ((l : ℕ) → m < l → kept l path ≡ path) → list_all (λ x. nat_lt m x.level) more ≡ true → nat_lt m x.level ≡ true → Deeper path more m x
+pub deeper_on : (path : List Spot) (m : ℕ) (more : List Spot) (x : Spot) → ((l : ℕ) → m < l → kept l path ≡ path) → list_all (λ x. nat_lt m x.level) more ≡ true → nat_lt m x.level ≡ true → Deeper path more m x
 deeper_on path m more x stays h lt = record {
   more' = kept x.level more ++ x ∷ [];
   next = ap (λ (r : List Spot). r ++ x ∷ [])
@@ -108,7 +108,7 @@ deeper_on path m more x stays h lt = record {
   last = last_end None path (kept x.level more) x;
 }
 
-same_next : (above path : List Spot) (m : ℕ) (more : List Spot) (t : Spot) → ((l : ℕ) → l ≤ m → kept l path ≡ kept l above) → list_all (λ x. nat_lt m x.level) more ≡ true → t.level ≤ m → kept t.level (path ++ more) ≡ kept t.level above
+pub same_next : (above path : List Spot) (m : ℕ) (more : List Spot) (t : Spot) → ((l : ℕ) → l ≤ m → kept l path ≡ kept l above) → list_all (λ x. nat_lt m x.level) more ≡ true → t.level ≤ m → kept t.level (path ++ more) ≡ kept t.level above
 same_next above path m more t same h high =
     filter-append (λ (x : Spot). nat_lt x.level t.level) path more
     ∙ ap (λ r. kept t.level path ++ r) (kept_none m t.level more h high)
@@ -125,7 +125,7 @@ pub skip : (top : Option ℕ) (test : OnPath → Bool) (goes : List Spot → Boo
     → list_all (λ x. nat_lt m x.level) more ≡ true
     → list_all (λ x. nat_lt m x.level) deep ≡ true
     → ((x : Spot) → m < x.level → is_inside top x ≡ true)
-    → ((more : List Spot) (x : Spot) → goes (path ++ more) ≡ true → last_or None (path ++ more) ≡ Some x → test (path ++ more, x) ≡ false)
+    → ((more : List Spot) (x : Spot) → goes (path ++ more) ≡ true → last_or None (path ++ more) ≡ Some x → m < x.level → test (path ++ more, x) ≡ false)
     → IfSome next (λ t. t.level ≤ m)
     → all_on goes (with_paths level (path ++ more) (deep ++ from_on view next)) ≡ true
     → first_inside top test (with_paths level (path ++ more) (deep ++ from_on view next)) ≡ first_inside top test (with_paths level above (from_on view next))
@@ -139,7 +139,7 @@ skip top test goes view above path m more (x ∷ xs) next stays same h k inside 
     let g = and_parts (goes (path_with level (path ++ more) x)) (all_on goes (with_paths level (path_with level (path ++ more) x) rest)) on in
     ap (λ (r : List Spot). first_inside top test ((r, x) ∷ with_paths level r rest)) d.next
     ∙ ap (λ b. cond (not b) None (cond (test (path ++ d.more', x)) (Some (path ++ d.more', x)) (first_inside top test (with_paths level (path ++ d.more') rest)))) (inside x (ltb-true m x.level a.0))
-    ∙ ap (λ b. cond b (Some (path ++ d.more', x)) (first_inside top test (with_paths level (path ++ d.more') rest))) (fails d.more' x (ap goes (sym d.next) ∙ g.0) d.last)
+    ∙ ap (λ b. cond b (Some (path ++ d.more', x)) (first_inside top test (with_paths level (path ++ d.more') rest))) (fails d.more' x (ap goes (sym d.next) ∙ g.0) d.last (ltb-true m x.level a.0))
     ∙ skip top test goes view above path m d.more' xs next stays same d.deeper a.1 inside fails high (ap (λ (r : List Spot). all_on goes (with_paths level r rest)) (sym d.next) ∙ g.1)
 
 -- what passed over it is still so behind it

@@ -136,14 +136,14 @@ kept_any test l (x ∷ xs) h = by (nat_lt x.level l) (kept_any test l xs) h
         split (inr t) = or_right (test x) (list_any test xs) (rest t)
     by false rest k = or_right (test x) (list_any test xs) (rest k)
 
-record AnyParts (test : Spot → Bool) (xs : List Spot) : Type 0 where
-  front : List Spot
-  one : Spot
-  rest : List Spot
-  is : xs ≡ front ++ one ∷ rest
-  passes : test one ≡ true
+pub record AnyParts (test : Spot → Bool) (xs : List Spot) : Type 0 where
+  pub front : List Spot
+  pub one : Spot
+  pub rest : List Spot
+  pub is : xs ≡ front ++ one ∷ rest
+  pub passes : test one ≡ true
 
-any_parts : (test : Spot → Bool) (xs : List Spot) → list_any test xs ≡ true → AnyParts test xs
+pub any_parts : (test : Spot → Bool) (xs : List Spot) → list_any test xs ≡ true → AnyParts test xs
 any_parts test [] h = absurd (let no : ⊥ = cc in no)
 any_parts test (x ∷ xs) h = by (test x) refl (any_parts test xs) h
   where
@@ -174,7 +174,7 @@ pub any_agree : (p q : Spot → Bool) → ((x : Spot) → p x ≡ q x) → (xs :
 any_agree p q f [] = refl
 any_agree p q f (x ∷ xs) = ap (λ b. b || list_any p xs) (f x) ∙ ap (λ b. q x || b) (any_agree p q f xs)
 
-found_of : (view : List Spot) (at : Anchor) (z : Spot) → is_at at z ≡ true → IsFound view z → find (is_at at) view ≡ Some z
+pub found_of : (view : List Spot) (at : Anchor) (z : Spot) → is_at at z ≡ true → IsFound view z → find (is_at at) view ≡ Some z
 found_of view at z h f = find_agree (is_at at) (is_at z.at) (λ x. same_as at z.at x.at h) view ∙ by z.at f
   where
     by : (a : Anchor) → found_at a view ≡ Some z → find (is_at a) view ≡ Some z

@@ -1,5 +1,5 @@
 -- What a get gives of the element that it finds, and the calls that every element meets.
-use Rattle.std.specs.Prelude.{◌≡◌, ℕ, ◌==◌, Bool, ◌&&◌, ◌||◌, List, length, Option, IfSome}
+use Rattle.std.specs.Prelude.{◌≡◌, ℕ, ◌==◌, Bool, ◌&&◌, ◌||◌, List, length, Option, is_some, IfSome}
 use Rattle.std.specs.Option.{option_map}
 use Rattle.hal_schema.specs.declared.schema.Schema.{Schema}
 use Rattle.call_text.specs.declared.line.Call.{Call}
@@ -8,6 +8,7 @@ use Rattle.position_state.specs.declared.session.Session.{Session}
 use Rattle.position_state.specs.declared.spot.Spot.{Spot}
 use Rattle.position_state.specs.Looks.{WalkView}
 use Rattle.dli_calls.specs.Gets.{OnPath, got, is_next, is_unique, shown_content}
+use Rattle.dli_calls.specs.Refusals.{asks_for_high_root, first_that_holds, text_refusals}
 use Rattle.call_gets.specs.declared.scan.Met.{Met}
 use Rattle.call_gets.specs.Scan.{on_its_path, plain_view}
 
@@ -24,6 +25,11 @@ IsGiven schema ssas seen wanted met =
 abbrev pub IsGotBy : Schema → WalkView → Session → Call → Option Met → Type 0
 IsGotBy schema seen session call met =
     IfSome seen.forest (λ rows. option_map (given schema call.ssas) (option_map on_its_path met) ≡ option_map (given schema call.ssas) (got schema rows call session))
+
+-- a get is refused before any look: by its text and its session (AD, AM, AJ, AK, AC, GP), for its data (+L), or for a root key
+-- above every high key (FM)
+abbrev pub is_refused_unseen : Schema → Session → Call → Bool
+is_refused_unseen schema session call = is_some (first_that_holds (text_refusals schema session call)) || is_some call.content || asks_for_high_root schema call
 
 -- a GU or a GN without an SSA: every element meets it
 abbrev pub is_of_any : Call → Bool

@@ -11,7 +11,9 @@ ghost use Rattle.dli_calls.specs.Meets.{is_of};
 ghost use Rattle.dli_calls.specs.Refusals.{asks_high_root};
 ghost use Rattle.dli_calls.specs.Ssas.{asks_data};
 ghost use Rattle.call_gets.specs.Scan.{IsDecided, LooksOn, on_its_path};
-ghost use Rattle.call_gets.specs.Shown.{is_of_any};
+ghost use Rattle.call_gets.specs.Shown.{is_of_any, is_refused_unseen};
+ghost use Rattle.call_gets.specs.Below.{IsWithinParent};
+ghost use Rattle.call_gets.specs.Passed.{IsWithinPassed};
 ghost use Rattle.call_gets.specs.Keyed.{IsWithinRecord, keyed_by};
 
 use crate::form::asks_data;
@@ -19,13 +21,12 @@ use crate::functions::{is_hold, is_next, is_unique, is_within_parent};
 use crate::gets::got;
 use crate::high::asks_high_root;
 use crate::judged::is_of;
-use crate::names::type_of;
 use crate::refusals::text_refusal;
 use crate::scan::Met;
 use call_text::{Call, Reply, SegOut, Ssa};
 use dli_calls::Decision;
 use hal_base::{Bytes, Memory, Name8};
-use hal_schema::Schema;
+use hal_schema::{Schema, type_of};
 use position_state::{Anchor, Change, Session, Spot, Walk, WalkFault};
 use std::alloc::Global;
 
@@ -47,6 +48,9 @@ pub fn decide_get<W: Walk>(
     ensures few { is_of_any call.now ≡ true → (W.seen walk.new).looks ≤ (W.seen walk.old).looks + 2 }
     ensures keyed { is_some (keyed_by schema.now call.now) ≡ true → (W.seen walk.new).looks ≤ (W.seen walk.old).looks + 1 }
     ensures within { IsWithinRecord schema.now call.now (W.seen walk.old) (W.seen walk.new) }
+    ensures below { IfOk result (λ d. IsWithinParent 6 schema.now session.now call.now (W.seen walk.old) (W.seen walk.new)) }
+    ensures passing { IfOk result (λ d. IsWithinPassed 4 schema.now session.now call.now (W.seen walk.old) (W.seen walk.new)) }
+    ensures unseen { is_refused_unseen schema.now session.now call.now ≡ true → W.seen walk.new ≡ W.seen walk.old }
     ensures looked { LooksOn (IsErrOf result WalkFault.Failed) (W.seen walk.old) (W.seen walk.new) }
 {
     if let Some(status) = text_refusal(schema, session, call) {
@@ -93,7 +97,7 @@ fn asks_for_high_root(schema: &Schema, call: &Call) -> Result<bool, Memory>
     any_high_root(schema, call.ssas.as_slice())
 }
 
-fn any_high_root(schema: &Schema, ssas: &[Ssa]) -> Result<bool, Memory>
+pub(crate) fn any_high_root(schema: &Schema, ssas: &[Ssa]) -> Result<bool, Memory>
     ensures { IfOk result (λ any. any ≡ list_any (asks_high_root schema.now) ssas.now) }
 {
     for ssa in ssas {

@@ -9,7 +9,7 @@ ghost use Rattle.dli_calls.specs.Ssas.{clause_holds, fitted, operator_of};
 use crate::subjects::field_named;
 use call_text::{Clause, Value};
 use hal_base::{Bytes, Memory};
-use hal_schema::Schema;
+use hal_schema::{Schema, portion};
 use position_state::Spot;
 use std::cmp::Ordering;
 
@@ -72,15 +72,6 @@ fn clause_holds(schema: &Schema, spot: &Spot, clause: &Clause) -> Result<bool, M
     }
 }
 
-/// The bytes from a start that counts from 1, as far as the content has them.
-fn portion(content: &[u8], start: u16, bytes: u16) -> &[u8]
-    ensures { result.now ≡ portion start bytes content.now }
-{
-    let from = (start as usize).saturating_sub(1);
-    let to = from + bytes as usize;
-    &content[from.min(content.len())..to.min(content.len())]
-}
-
 /// Whether so many bytes of an element compare with a clause's value as its operator says.
 fn compares(clause: &Clause, content: &[u8], bytes: u16) -> Result<bool, Memory>
     ensures { IfOk result (λ holds. holds
@@ -114,7 +105,7 @@ fn passes(op: &[u8], order: Ordering) -> bool
 }
 
 /// A value at a length: a shorter text is padded with blanks. None where it doesn't fit.
-pub(crate) fn fitted(value: &Value, bytes: u16) -> Result<Option<Bytes>, Memory>
+pub fn fitted(value: &Value, bytes: u16) -> Result<Option<Bytes>, Memory>
     ensures { IfOk result (λ text. text ≡ fitted bytes value.now) }
 {
     match value {

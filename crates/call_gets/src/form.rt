@@ -69,7 +69,7 @@ pub fn is_unfit(value: &Value, bytes: usize) -> bool
     }
 }
 
-pub(crate) fn last_of(ssas: &[Ssa]) -> Option<&Ssa>
+pub fn last_of(ssas: &[Ssa]) -> Option<&Ssa>
     ensures { option_copied result ≡ last_or None ssas.now }
 {
     let mut last = None;

@@ -9,11 +9,11 @@ ghost use Rattle.dli_calls.specs.Refusals.{asks_high_root, is_at_root_key, is_hi
 ghost use Rattle.dli_calls.specs.Ssas.{code_named, fitted, subject_of};
 
 use crate::clauses::fitted;
-use crate::names::{code_named, type_of};
+use crate::names::code_named;
 use crate::subjects::field_named;
 use call_text::{Clause, Ssa, Value};
 use hal_base::Memory;
-use hal_schema::{Field, Schema, select};
+use hal_schema::{Field, Schema, select, type_of};
 
 /// Whether an SSA is the root's with exactly one clause, for a value of the root key above every high key. IMS: status
 /// code FM.

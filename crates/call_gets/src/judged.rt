@@ -2,16 +2,17 @@
 ghost use Rattle.std.specs.Prelude.{◌≡◌, ◌≤◌, ◌↔◌, ◌==◌, ◌&&◌, if◌then◌else◌, false, is_some, Some, ◌∷◌, ◌++◌, [], find, true, None, IfOk, IfSome, IsErrOf, IsTrue, All};
 ghost use Rattle.std.specs.List.{list_any, last_or};
 ghost use Rattle.std.specs.Option.{ForSome, option_copied, option_map_or};
-ghost use Rattle.call_gets.specs.declared.judged.Verdict.TheVariants.{Meets, Open};
+ghost use Rattle.call_gets.specs.declared.judged.Verdict.TheVariants.{Closed, Meets, Open};
 ghost use Rattle.dli_calls.specs.Meets.{clauses_hold, is_of, later_twins};
 ghost use Rattle.dli_calls.specs.Ssas.{asks_last, clause_holds, code_named};
-ghost use Rattle.dli_calls.specs.Refusals.{is_in_subtree};
+ghost use Rattle.dli_calls.specs.Refusals.{is_below_type, is_in_subtree};
+ghost use Rattle.call_gets.specs.Passed.{leads};
 ghost use Rattle.call_gets.specs.Scan.{AreShown, Holds, IsOn, IsShown, IsVerdict, LooksOn, may_lead, of_ssa, plain_view};
 
 use crate::clauses::clauses_hold;
 use crate::form::{asks_last, last_of};
 use crate::names::code_named;
-use crate::path::is_in_subtree;
+use crate::path::{is_below_type, is_in_subtree};
 use call_text::Ssa;
 use hal_base::Memory;
 use hal_schema::{Schema, schemas_are_kept};
@@ -39,6 +40,7 @@ pub(crate) fn judge<W: Walk>(
     requires shown { AreShown schema.now (W.seen walk.old) (above.now ++ spot.now ∷ []) None }
     ensures verdict { IfOk result (λ verdict. IfSome (W.seen walk.old).forest
         (λ rows. IsVerdict schema.now (plain_view schema.now rows) ssas.now (above.now ++ spot.now ∷ []) spot.now verdict)) }
+    ensures leads { IfOk result (λ verdict. verdict ≡ Open → leads schema.now ssas.now spot.now.code ≡ true) }
     ensures few { list_any asks_last ssas.now ≡ false → (W.seen walk.new).looks ≤ (W.seen walk.old).looks }
     ensures looked { LooksOn (IsErrOf result WalkFault.Failed) (W.seen walk.old) (W.seen walk.new) }
 {
@@ -54,10 +56,10 @@ pub(crate) fn judge<W: Walk>(
         }
         all = is_still(all, on);
     }
-    if !all {
-        return Ok(Verdict::Open);
+    if is_last(schema, ssas, spot) {
+        return Ok(at_last(all));
     }
-    Ok(by_type(is_last(schema, ssas, spot)))
+    Ok(Verdict::Open)
 }
 
 /// Whether the last SSA's type is that of a code, or below it.
@@ -67,6 +69,25 @@ fn may_lead(schema: &Schema, ssas: &[Ssa], code: u8) -> bool
     match last_of(ssas) {
         None => true,
         Some(ssa) => leads_to(schema, code, ssa),
+    }
+}
+
+/// Whether elements of the last SSA's type may stand below one of this type.
+pub(crate) fn leads(schema: &Schema, ssas: &[Ssa], code: u8) -> bool
+    ensures { result ≡ leads schema.now ssas.now code }
+{
+    match last_of(ssas) {
+        None => true,
+        Some(ssa) => leads_below(schema, code, ssa),
+    }
+}
+
+fn leads_below(schema: &Schema, code: u8, ssa: &Ssa) -> bool
+    ensures { result ≡ option_map_or (is_below_type schema.now code) (code_named schema.now ssa.now.seg) false }
+{
+    match code_named(schema, ssa.seg) {
+        None => false,
+        Some(last) => is_below_type(schema, code, last),
     }
 }
 
@@ -94,10 +115,11 @@ fn is_still(all: bool, on: Option<bool>) -> bool
     all && on.is_some()
 }
 
-fn by_type(last: bool) -> Verdict
-    ensures { result ≡ (if last then Meets else Open) }
+/// The verdict on an element of the last SSA's type, below which there is none.
+fn at_last(all: bool) -> Verdict
+    ensures { result ≡ (if all then Meets else Closed) }
 {
-    if last { Verdict::Meets } else { Verdict::Open }
+    if all { Verdict::Meets } else { Verdict::Closed }
 }
 
 /// Whether an SSA holds for the element of its type on a path; none where the path has no such element.

@@ -38,7 +38,7 @@ pub(crate) fn keyed_path(schema: &Schema, call: &Call) -> Result<Option<Bytes>, 
     }
 }
 
-fn goes_below(schema: &Schema, ssas: &[Ssa]) -> bool
+pub(crate) fn goes_below(schema: &Schema, ssas: &[Ssa]) -> bool
     ensures { result ≡ goes_below schema.now ssas.now }
 {
     match last_of(ssas) {
@@ -56,7 +56,7 @@ fn is_below_root(schema: &Schema, ssa: &Ssa) -> bool
     }
 }
 
-fn wanted_by_one(schema: &Schema, ssas: &[Ssa]) -> Result<Option<Bytes>, Memory>
+pub(crate) fn wanted_by_one(schema: &Schema, ssas: &[Ssa]) -> Result<Option<Bytes>, Memory>
     ensures { IfOk result (λ key. key ≡ option_and_then (root_wanted schema.now) (one_of ssas.now)) }
 {
     if ssas.len() != 1 {
@@ -65,7 +65,7 @@ fn wanted_by_one(schema: &Schema, ssas: &[Ssa]) -> Result<Option<Bytes>, Memory>
     root_wanted(schema, &ssas[0])
 }
 
-fn root_wanted(schema: &Schema, ssa: &Ssa) -> Result<Option<Bytes>, Memory>
+pub(crate) fn root_wanted(schema: &Schema, ssa: &Ssa) -> Result<Option<Bytes>, Memory>
     ensures { IfOk result (λ key. key ≡ root_wanted schema.now ssa.now) }
 {
     if !is_of_root(schema, ssa) || asks_last(ssa) {
@@ -75,7 +75,8 @@ fn root_wanted(schema: &Schema, ssa: &Ssa) -> Result<Option<Bytes>, Memory>
 }
 
 fn wanted_by_clause(schema: &Schema, clauses: &[Clause]) -> Result<Option<Bytes>, Memory>
-    ensures { IfOk result (λ key. key ≡ option_and_then (λ clause. key_wanted schema.now clause (subject_of schema.now None 1 clause.field)) (one_of clauses.now)) }
+    ensures { IfOk result (λ key.
+        key ≡ option_and_then (λ clause. key_wanted schema.now clause (subject_of schema.now None 1 clause.field)) (one_of clauses.now)) }
 {
     if clauses.len() != 1 {
         return Ok(None);

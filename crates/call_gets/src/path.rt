@@ -2,8 +2,7 @@
 ghost use Rattle.std.specs.Prelude.{◌≡◌};
 ghost use Rattle.dli_calls.specs.Refusals.{is_below_type, is_in_subtree};
 
-use crate::names::parent_code;
-use hal_schema::Schema;
+use hal_schema::{Schema, parent_code};
 
 /// Whether a type is that above or below it.
 pub fn is_in_subtree(schema: &Schema, above: u8, code: u8) -> bool

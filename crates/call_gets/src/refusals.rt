@@ -11,12 +11,12 @@ ghost use Rattle.dli_calls.specs.Ssas.{asks_data, code_named, index_of};
 
 use crate::form::{asks_data, has_odd_code, has_odd_operator, is_bare, last_of};
 use crate::functions::{is_delete, is_get, is_insert, is_replace, is_within_parent};
-use crate::names::{code_named, index_of, is_parent_code};
+use crate::names::{code_named, index_of};
 use crate::options::is_not_allowed;
 use crate::path::{is_below_type, is_in_subtree};
 use crate::subjects::{has_misfit, has_unknown};
 use call_text::{Call, Ssa};
-use hal_schema::Schema;
+use hal_schema::{Schema, is_parent_code};
 use position_state::Session;
 
 /// The first refusal that a call's text and its session give, in the order of the statuses.

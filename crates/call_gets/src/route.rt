@@ -1,5 +1,5 @@
 // The path to a place of the view, climbed by looks.
-ghost use Rattle.std.specs.Prelude.{◌≡◌, ◌∷◌, IfOk, IfSome, OnOk, IsErrOf, IsTrue, None};
+ghost use Rattle.std.specs.Prelude.{◌≡◌, ◌≤◌, ◌+◌, ◌∷◌, length, IfOk, IfSome, OnOk, IsErrOf, IsTrue, None};
 ghost use Rattle.std.specs.Option.{ForSome};
 ghost use Rattle.position_state.specs.Looks.{stands_in};
 ghost use Rattle.call_gets.specs.Scan.{IsPath, LooksOn, plain_view};
@@ -18,6 +18,7 @@ pub(crate) fn path_to<W: Walk>(
     requires live { IsTrue (W.seen walk.old).live }
     requires there { IsTrue (stands_in (W.seen walk.old) None at.now) }
     ensures path { IfOk result (λ path. IfSome (W.seen walk.old).forest (λ rows. IsPath (plain_view (W.seen walk.old).schema rows) at.now path.items)) }
+    ensures few { IfOk result (λ path. (W.seen walk.new).looks ≤ (W.seen walk.old).looks + (1 + length path.items)) }
     ensures looked { LooksOn (IsErrOf result WalkFault.Failed) (W.seen walk.old) (W.seen walk.new) }
 {
     places_differ();

@@ -8,10 +8,10 @@ ghost use Rattle.dli_calls.specs.Refusals.{any_subject, is_misfit, is_unknown};
 ghost use Rattle.dli_calls.specs.Ssas.{index_of, search_named, subject_bytes, subject_of};
 
 use crate::form::is_unfit;
-use crate::names::{code_named, index_of, type_of};
+use crate::names::{code_named, index_of};
 use call_text::{Clause, Ssa};
 use hal_base::Name8;
-use hal_schema::{Field, IndexDef, Schema};
+use hal_schema::{Field, IndexDef, Schema, type_of};
 
 /// Whether an SSA of a known segment has a value that doesn't fit what its clause speaks of.
 pub(crate) fn has_misfit(schema: &Schema, index: Option<u8>, ssa: &Ssa) -> bool

@@ -14,5 +14,5 @@ mod sessions;
 mod state;
 
 pub use laws::{each_line_is_answered, other_lines_leave_the_list};
-pub use sessions::{SESSIONS, open_session, session_place};
-pub use state::{CallState, OpenSession};
+pub use sessions::{SESSIONS, is_named, open_session, session_of};
+pub use state::{CallState, OpenSession, copied_sessions};

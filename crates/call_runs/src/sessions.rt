@@ -1,10 +1,10 @@
 // Sessions by their scripts and names.
-ghost use Rattle.std.specs.Prelude.{◌≡◌, ◌<◌, ◌≤◌, ◌==◌, nat_le, nat_lt, not, ◌&&◌, count_by, length, position, IfOk, IfSome, None, OnErr, OnOk};
+ghost use Rattle.std.specs.Prelude.{◌≡◌, ◌<◌, ◌≤◌, ◌==◌, nat_le, nat_lt, not, ◌&&◌, count_by, length, IfOk, IfSome, None, OnErr, OnOk};
 ghost use Rattle.std.specs.List.{list_all, list_any};
-ghost use Rattle.std.specs.Option.{option_map_or};
+ghost use Rattle.std.specs.Option.{option_copied, option_map_or};
 ghost use Rattle.std.specs.Str.{bytes_eq};
 ghost use Rattle.call_runs.specs.Sessions.{are_options, count_of, has_session, index_of, index_place, is_known, is_named, is_option, most_sessions, new_session};
-ghost use Rattle.call_runs.specs.Sessions.{open_cause, open_reply, opened, same_script, session_reply};
+ghost use Rattle.call_runs.specs.Sessions.{open_cause, open_reply, opened, same_script, session_of, session_reply};
 
 use crate::OpenSession;
 use call_text::{Open, Reply};
@@ -34,16 +34,21 @@ pub fn open_session(
     Ok(session_reply(cause))
 }
 
-/// The place of a script's session of a name among the open ones; none where a call is answered `+S 5`.
-pub fn session_place(sessions: &[OpenSession], script: Option<u16>, name: Name8) -> Option<usize>
-    ensures { result ≡ position (is_named script name) sessions.now }
+/// A script's open session of a name; none where a call is answered `+S 5`.
+pub fn session_of(
+    sessions: &[OpenSession],
+    script: Option<u16>,
+    name: Name8,
+) -> Option<&OpenSession>
+    ensures { option_copied result ≡ session_of sessions.now script name }
 {
     sessions
         .iter()
-        .position(|session| is_named(script, name, session))
+        .find(|session| is_named(script, name, session))
 }
 
-fn is_named(script: Option<u16>, name: Name8, session: &OpenSession) -> bool
+/// Whether an open session is the script's session of a name.
+pub fn is_named(script: Option<u16>, name: Name8, session: &OpenSession) -> bool
     ensures { result ≡ is_named script name session.now }
 {
     same_script(script, session.script) && session.name == name

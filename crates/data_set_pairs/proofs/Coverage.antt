@@ -1,5 +1,5 @@
 -- Each data block that isn't free is the page that its head names.
-use Rattle.std.proofs.Common.{◌≡◌, ◌∙◌, ℕ, zero, suc, ◌+◌, ◌-◌, ◌<◌, ◌≤◌, ◌==◌, Bool, true, false, ◌&&◌, ◌||◌, cond, List, [], ◌∷◌, length, length-drop, drop, get_or, Some, slice_get, refl, sym, ap, arith}
+use Rattle.std.proofs.Common.{◌≡◌, ◌∙◌, ℕ, zero, suc, ◌+◌, ◌-◌, ◌<◌, ◌≤◌, ◌==◌, Bool, true, false, ◌&&◌, ◌||◌, cond, List, [], ◌∷◌, length, length-drop, drop, get_or, Some, slice_get, refl, sym, ap, subst, arith}
 use Rattle.std.specs.Prelude.{All, filter}
 use Rattle.std.specs.List.{list_all, list_any}
 use Rattle.std.specs.Option.{option_map}
@@ -89,6 +89,23 @@ its_page indexes control number states pages free list k table laid low high hel
         ∙ sym (same_any test (taken_pages indexes states control (drop control list)) pages laid.table.taken)
         ∙ taken_any indexes states control (k - control) (drop control list) test within taken pass
 
+-- a data block that isn't free has what each page of its data set has
+pub page_has : (P : SetId → List ℕ → Type 0) (indexes control number : ℕ) (states : List PartState) (pages : List PagePlace) (free : List ℕ) (list : List (List ℕ)) (k : ℕ) → IsTable control number pages free → IsLaidOut indexes control number states pages free list
+    → ((set : SetId) → All (P set) (blocks_at (places_of set pages) list)) → control ≤ k → k < length list → is_free states (get_or list k []) ≡ false → P (set_in (get_or list k [])) (get_or list k [])
+page_has P indexes control number states pages free list k table laid each low high held =
+    let found = its_page indexes control number states pages free list k table laid low high held in
+    let page : slice_get (blocks_at places list) n ≡ Some (get_or list k []) = slice_get-map (λ (i : ℕ). get_or list i []) places n ∙ ap (option_map (λ (i : ℕ). get_or list i [])) found in
+    subst (P set) (get_or_from_slice_get (blocks_at places list) n (get_or list k []) [] page) (each set n [] (slice_get_within (blocks_at places list) n (get_or list k []) page))
+  where
+    set : SetId
+    set = set_in (get_or list k [])
+
+    n : ℕ
+    n = page_in (get_or list k [])
+
+    places : List ℕ
+    places = places_of set pages
+
 -- while each page says no more than a head may, each data block that isn't free does so
 pub quiet_pages : (indexes control number : ℕ) (states : List PartState) (pages : List PagePlace) (free : List ℕ) (list : List (List ℕ)) → IsTable control number pages free → IsLaidOut indexes control number states pages free list → ((set : SetId) → All (λ page. says_no_more page ≡ true) (blocks_at (places_of set pages) list)) → are_quiet states (drop control list) ≡ true
 quiet_pages indexes control number states pages free list table laid quiet = all_from (λ (b : List ℕ). is_free states b || says_no_more b) (drop control list) [] (λ k lt. here k lt (is_free states (get_or (drop control list) k [])) refl)
@@ -98,8 +115,6 @@ quiet_pages indexes control number states pages free list table laid quiet = all
     here k lt false is =
         let back : control + k - control ≡ k = omega arith in
         let at : get_or (drop control list) k [] ≡ get_or list (control + k) [] = ap (λ (j : ℕ). get_or (drop control list) j []) (sym back) ∙ data_at list control (control + k) (omega arith) in
-        let block : List ℕ = get_or list (control + k) [] in
-        let found = its_page indexes control number states pages free list (control + k) table laid (omega arith) (omega (arith, lt, length-drop control list)) (ap (is_free states) (sym at) ∙ is) in
-        let page : slice_get (blocks_at (places_of (set_in (get_or list (control + k) [])) pages) list) (page_in (get_or list (control + k) [])) ≡ Some (get_or list (control + k) []) = slice_get-map (λ (i : ℕ). get_or list i []) (places_of (set_in (get_or list (control + k) [])) pages) (page_in (get_or list (control + k) [])) ∙ ap (option_map (λ (i : ℕ). get_or list i [])) found in
-        let says : says_no_more (get_or list (control + k) []) ≡ true = ap says_no_more (sym (get_or_from_slice_get (blocks_at (places_of (set_in (get_or list (control + k) [])) pages) list) (page_in (get_or list (control + k) [])) (get_or list (control + k) []) [] page)) ∙ quiet (set_in (get_or list (control + k) [])) (page_in (get_or list (control + k) [])) [] (slice_get_within (blocks_at (places_of (set_in (get_or list (control + k) [])) pages) list) (page_in (get_or list (control + k) [])) (get_or list (control + k) []) page) in
+        let says : says_no_more (get_or list (control + k) []) ≡ true =
+        page_has (λ set page. says_no_more page ≡ true) indexes control number states pages free list (control + k) table laid quiet (omega arith) (omega (arith, lt, length-drop control list)) (ap (is_free states) (sym at) ∙ is) in
         ap (λ (f : Bool). f || says_no_more (get_or (drop control list) k [])) is ∙ ap says_no_more at ∙ says

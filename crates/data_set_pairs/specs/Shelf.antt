@@ -1,11 +1,11 @@
 -- A volume as a shelf of pages.
-use Rattle.std.specs.Prelude.{◌≡◌, ℕ, Bool, ◌&&◌, ◌==◌, nat_lt, not, if◌then◌else◌, List, [], map, take, reverse, slice_index_or, Option, IsTrue}
+use Rattle.std.specs.Prelude.{◌≡◌, ℕ, ◌<◌, ◌≤◌, Bool, false, ◌&&◌, ◌==◌, nat_lt, not, if◌then◌else◌, List, [], length, map, take, reverse, slice_index_or, Option, IsTrue}
 use Rattle.std.proofs.Common.{Vec, Global}
 use Rattle.std.specs.List.{list_any}
 use Rattle.std.specs.Option.{option_map}
 use Rattle.hal_base.specs.declared.pages.SetId.{SetId}
 use Rattle.hal_base.specs.declared.place.PartState.{PartState}
-use Rattle.volume_image.specs.Header.{has_cells, is_left, is_live_set}
+use Rattle.volume_image.specs.Header.{has_cells, is_free, is_left, is_live_set, kind_in, set_in}
 use Rattle.hal_base.specs.ShelfCalls.{ShelfView}
 use Rattle.hal_base.specs.StoreCalls.{StoreView}
 use Rattle.data_set_pairs.specs.declared.place.PagePlace.{PagePlace}
@@ -22,6 +22,12 @@ blocks_at places list = map (λ n. slice_index_or list n []) places
 -- indexes, which are the partitions from 32,768 on, have rows (kind 2)
 abbrev pub kind_fits : SetId → ℕ → Bool
 kind_fits set kind = if has_cells set.letter && nat_lt set.part 32768 then kind == 1 else kind == 2
+
+-- each data block that isn't free has the kind that fits its data set
+abbrev pub KindsFit : List PartState → ℕ → List (List ℕ) → Type 0
+KindsFit states control list =
+    (block : ℕ) → control ≤ block → block < length list → is_free states (slice_index_or list block []) ≡ false
+    → IsTrue (kind_fits (set_in (slice_index_or list block [])) (kind_in (slice_index_or list block [])))
 
 -- a block of this data set and kind isn't free, is of a data set that stands, and of the kind that fits it
 abbrev pub takes : ℕ → List PartState → SetId → ℕ → Bool

@@ -3,9 +3,9 @@ ghost use Rattle.std.specs.Prelude.{◌≡◌, ◌*◌, ◌<◌, ◌≤◌, ℕ,
 ghost use Rattle.hal_base.specs.declared.pages.SetId.{SetId};
 ghost use Rattle.hal_base.specs.declared.place.PartState.{PartState};
 ghost use Rattle.volume_image.specs.Control.{control_row, row_in};
-ghost use Rattle.volume_image.specs.Header.{is_free, page_in, says_no_more, set_in};
+ghost use Rattle.volume_image.specs.Header.{is_free, kind_in, page_in, says_no_more, set_in};
 ghost use Rattle.volume_image.specs.Pages.{set_blocks};
-ghost use Rattle.data_set_pairs.specs.Shelf.{blocks_at};
+ghost use Rattle.data_set_pairs.specs.Shelf.{blocks_at, kind_fits, KindsFit};
 ghost use Rattle.data_set_pairs.specs.Table.{places_of};
 ghost use Rattle.data_set_pairs.specs.Image.{are_known, AreNumbered, DataKnown, DataNumbered, IsPage};
 ghost use Rattle.data_set_pairs.specs.Row.{GoesOn, Switches};
@@ -16,8 +16,9 @@ use hal_base::{Blocks, PartState};
 impl<B: Blocks> Volume<B> {
     /// Where the blocks are told: the control rows are those of the states, with zeros behind them; the block of each page
     /// has the head of that page, and each block that isn't free is the page that its head names. While each page of each data
-    /// set says no more than its head may, each data block is free or live; then the live blocks of each data set are numbered
-    /// from 0 on, and the data set's pages are all of them.
+    /// set has the kind that fits it, each data block that isn't free does. While each page says no more than its head may,
+    /// each data block is free or live; then the live blocks of each data set are numbered from 0 on, and the data set's pages
+    /// are all of them.
     pub fn is_its_blocks(&self)
         ensures rows { IfSome (B.seen self.now.blocks).list (λ list. (place : ℕ) (s : PartState) → slice_get self.now.states.items place ≡ Some s
             → row_in list place ≡ control_row s) }
@@ -29,6 +30,9 @@ impl<B: Blocks> Volume<B> {
         ensures each { IfSome (B.seen self.now.blocks).list (λ list. (block : ℕ) → self.now.control ≤ block → block < length list
             → is_free self.now.states.items (slice_index_or list block []) ≡ false → slice_get (places_of (set_in (slice_index_or list block []))
             self.now.table.pages.items) (page_in (slice_index_or list block [])) ≡ Some block) }
+        ensures kinds { IfSome (B.seen self.now.blocks).list
+            (λ list. ((set : SetId) → All (λ page. IsTrue (kind_fits set (kind_in page))) (blocks_at (places_of set self.now.table.pages.items) list))
+            → KindsFit self.now.states.items self.now.control list) }
         ensures known { IfSome (B.seen self.now.blocks).list
             (λ list. ((set : SetId) → All (λ page. IsTrue (says_no_more page)) (blocks_at (places_of set self.now.table.pages.items) list))
             → IsTrue (are_known self.now.indexes self.now.states.items (drop self.now.control list))) }

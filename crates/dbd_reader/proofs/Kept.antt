@@ -21,7 +21,7 @@ use Rattle.dbd_reader.specs.declared.value.KeyedName.{KeyedName}
 use Rattle.dbd_reader.specs.declared.value.RmName.{RmName}
 use Rattle.dbd_reader.specs.declared.operand.Operand.{Operand}
 use Rattle.dbd_reader.specs.declared.statement.Statement.{Statement}
-use Rattle.dbd_reader.specs.declared.fault.TextFault.{TextFault}
+use Rattle.hal_schema.specs.declared.text_fault.TextFault.{TextFault}
 use Rattle.dbd_reader.specs.declared.draft.Draft.{Draft}
 use Rattle.dbd_reader.specs.declared.draft.Draft.TheVariants as drafts
 use Rattle.dbd_reader.specs.Words.{word_of, operands_of}
@@ -31,7 +31,8 @@ use Rattle.dbd_reader.specs.Statements.{statements}
 use Rattle.dbd_reader.specs.Values.{name_value, field_value, is_system_name, access_value, rmname_of, rmname_value, is_optional_number, first_number, in_list, parent_value, bytes_value, keyed, keyed_of, keyed_in, keyed_value, sequence_of, number_value, child_of, child_value, index_value, search_value, fields_value}
 use Rattle.dbd_reader.specs.Verdicts.{checked}
 use Rattle.dbd_reader.specs.Meanings.{needed, rmname_or_none, parent_or_none, first_or_last, letter_or_a, source_or, fields_or_none, dbd_of, segm_of, field_of, lchild_of, xdfld_of}
-use Rattle.dbd_reader.specs.Definition.{with_type, with_index, with_field, at_start, at_head, at_segment, at_index, at_end, at_finish, step, worded, is_bad_at, or_bad, at_line, judged, concluded, definition, definition_of, placed, meaning_of, Says}
+use Rattle.dbd_reader.specs.Definition.{with_type, with_index, with_field, at_start, at_head, at_segment, at_index, at_end, at_finish, step, worded, is_bad_at, or_bad, at_line, judged, concluded, definition, definition_of, placed, meaning_of}
+use Rattle.hal_schema.specs.Reading.{Says}
 
 -- ---- what is read of one thing, and then of another
 

@@ -3,13 +3,14 @@ use Rattle.std.proofs.Common.{◌≡◌, ℕ, ◌+◌, ◌-◌, ◌≤◌, List,
 use Rattle.std.specs.Str.Lines.{lines}
 use Rattle.hal_schema.specs.declared.raw.RawDbd.{RawDbd}
 use Rattle.dbd_reader.specs.declared.statement.Statement.{Statement}
-use Rattle.dbd_reader.specs.declared.fault.TextFault.{TextFault}
-use Rattle.dbd_reader.specs.declared.fault.TextFault.TheVariants as faults
+use Rattle.hal_schema.specs.declared.text_fault.TextFault.{TextFault}
+use Rattle.hal_schema.specs.declared.text_fault.TextFault.TheVariants as faults
 use Rattle.dbd_reader.specs.declared.draft.Draft.{Draft}
 use Rattle.dbd_reader.specs.declared.draft.Draft.TheVariants as drafts
 use Rattle.dbd_reader.specs.Lines.{behind_lines, IsBehind}
 use Rattle.dbd_reader.specs.Statements.{statements}
-use Rattle.dbd_reader.specs.Definition.{judged, concluded, definition, definition_of, place_of, placed, meaning_of, Says}
+use Rattle.dbd_reader.specs.Definition.{judged, concluded, definition, definition_of, place_of, placed, meaning_of}
+use Rattle.hal_schema.specs.Reading.{Says}
 
 -- what has been read, and what the rest makes of it
 pub record IsUnder (text : List ℕ) (draft : Draft) (line : ℕ) (rest : List ℕ) : Type 0 where

@@ -11,8 +11,8 @@ use Rattle.dbd_reader.specs.declared.word.Word.TheVariants as words
 use Rattle.dbd_reader.specs.declared.value.Child.{Child}
 use Rattle.dbd_reader.specs.declared.operand.Operand.{Operand}
 use Rattle.dbd_reader.specs.declared.statement.Statement.{Statement}
-use Rattle.dbd_reader.specs.declared.fault.TextFault.{TextFault}
-use Rattle.dbd_reader.specs.declared.fault.TextFault.TheVariants as faults
+use Rattle.hal_schema.specs.declared.text_fault.TextFault.{TextFault}
+use Rattle.hal_schema.specs.declared.text_fault.TextFault.TheVariants as faults
 use Rattle.dbd_reader.specs.declared.draft.Draft.{Draft}
 use Rattle.dbd_reader.specs.declared.draft.Draft.TheVariants as drafts
 use Rattle.dbd_reader.specs.Words.{word_of, operands_of}
@@ -125,8 +125,3 @@ placed text (Ok read) = Ok (read.0, place_of text read.1)
 -- what a text says: its raw definition and where the text behind begins, or the first line that breaks a rule
 unfoldable pub meaning_of : List ℕ → Result (RawDbd × ℕ) TextFault
 meaning_of text = placed text (definition_of text)
-
--- What a reader returned is this, unless memory ran out.
-abbrev pub Says : {X : Type 0} → Result X TextFault → Result X TextFault → Type 0
-Says (Err faults.Memory) meaning = Unit {0}
-Says result meaning = meaning ≡ result

@@ -5,7 +5,7 @@
 //! - `operand`, `value`, `segm_value`, `field_value`: operands, and what their values say;
 //! - `verdict`: which operands a statement takes, and the rules that they break;
 //! - `meaning`, `draft`: what each statement says, and the statements in their order;
-//! - `fault`: why a text isn't read.
+//! - `fault`: why a statement isn't read.
 #![tactic(auto)]
 
 mod draft;
@@ -21,7 +21,6 @@ mod value;
 mod verdict;
 mod word;
 
-pub use fault::TextFault;
 pub use reading::read_dbd;
 
 #[cfg(test)]

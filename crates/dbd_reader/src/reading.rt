@@ -4,15 +4,16 @@ ghost use Rattle.hal_schema.specs.Named.{dbd_is_named};
 ghost use Rattle.std.specs.Str.Lines.{lines};
 ghost use Rattle.dbd_reader.specs.Words.{word_of};
 ghost use Rattle.dbd_reader.specs.Reading.{Gives};
-ghost use Rattle.dbd_reader.specs.Definition.{worded, is_bad_at, or_bad, judged, Says, meaning_of};
+ghost use Rattle.dbd_reader.specs.Definition.{worded, is_bad_at, or_bad, judged, meaning_of};
+ghost use Rattle.hal_schema.specs.Reading.{Says};
 
 use crate::draft::{Draft, step};
-use crate::fault::{ReadError, TextFault};
+use crate::fault::ReadError;
 use crate::lines::cut_line;
 use crate::operand::operands_in;
 use crate::statement::{Statement, next_statement};
 use crate::word::{Word, operands_of, word_of};
-use hal_schema::RawDbd;
+use hal_schema::{RawDbd, TextFault};
 use std::alloc::Global;
 
 #[tactic(auto, unfolding(crate::specs::Definition::worded))]

@@ -1,6 +1,6 @@
-use crate::{TextFault, read_dbd};
+use crate::read_dbd;
 use hal_base::{Bytes, List, Name8};
-use hal_schema::{RawDbd, RawIndex, RawType};
+use hal_schema::{RawDbd, RawIndex, RawType, TextFault};
 use std::test::Fail;
 
 fn put(rt: &HostRuntime, out: &mut Bytes, text: &str, number: usize) -> Result<(), Fail> {

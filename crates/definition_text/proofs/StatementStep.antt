@@ -6,7 +6,7 @@ use Rattle.hal_schema.specs.declared.raw.RawDbd.{RawDbd}
 use Rattle.dbd_reader.specs.declared.word.Word.{Word}
 use Rattle.dbd_reader.specs.declared.word.Word.TheVariants as words
 use Rattle.dbd_reader.specs.declared.operand.Operand.{Operand}
-use Rattle.dbd_reader.specs.declared.fault.TextFault.{TextFault}
+use Rattle.hal_schema.specs.declared.text_fault.TextFault.{TextFault}
 use Rattle.dbd_reader.specs.declared.draft.Draft.{Draft}
 use Rattle.dbd_reader.specs.declared.statement.Statement.{Statement}
 use Rattle.dbd_reader.specs.Words.{is_dark, statement_word, from_word, word_of, operands_of}

@@ -4,7 +4,8 @@
 
 mod print;
 
-pub use dbd_reader::{TextFault, read_dbd};
+pub use dbd_reader::read_dbd;
+pub use hal_schema::TextFault;
 pub use partition_reader::read_partitions;
 pub use print::{print_dbd, print_partitions};
 

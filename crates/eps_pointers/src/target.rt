@@ -3,8 +3,7 @@ ghost use Rattle.std.specs.Prelude.{◌≡◌};
 ghost use Rattle.eps_pointers.specs.Target.{HasAnchors, generation_of, has_passed};
 
 use hal_base::{Cursor, PartState};
-use hal_schema::PartDef;
-use partition_select::anchor;
+use hal_schema::{PartDef, anchor};
 
 /// The reorganization number of the data sets where the record of a root key stands: that of its partition, or the next
 /// one where a reorganization has copied the record.

@@ -1,7 +1,6 @@
 ghost use Rattle.forest_laws.specs.Joining.{ChangesStayWithin, ForestsAreSequences, InsertionsStayWithin, JoinsExample, OrdersJoin, SequencesJoin};
 
-use hal_schema::schemas_are_kept;
-use partition_select::root_order_is_total;
+use hal_schema::{root_order_is_total, schemas_are_kept};
 
 /// A forest is a list in hierarchic sequence in which no index has a key twice.
 pub fn forests_are_sequences()

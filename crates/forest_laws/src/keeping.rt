@@ -1,7 +1,6 @@
 ghost use Rattle.forest_laws.specs.Keeping.{CutKeeps, InsertionKeeps, ReplacementKeeps};
 
-use hal_schema::schemas_are_kept;
-use partition_select::root_order_is_total;
+use hal_schema::{root_order_is_total, schemas_are_kept};
 
 /// Inserting a row that may be inserted keeps a forest.
 pub fn insertion_keeps()

@@ -9,7 +9,7 @@ use Rattle.std.proofs.lemmas.Option.{slice_get_within, slice_get_read, get_or_fr
 use Rattle.hal_base.specs.declared.place.Shape.{Shape}
 use Rattle.hal_base.specs.declared.pages.SetId.{SetId}
 use Rattle.hal_base.specs.Pages.{SameOthers}
-use Rattle.hal_base.specs.ShelfCalls.{ShelfView, SameShelf, ChangedIn, GrownBy, OnlyChanges, OnlyGrows}
+use Rattle.hal_base.specs.ShelfCalls.{ShelfView, SameShelf, ChangedIn, GrownBy}
 use Rattle.segment_blocks.specs.declared.tile.Cell.{Cell}
 use Rattle.segment_blocks.specs.declared.tile.Tile.{Tile}
 use Rattle.segment_blocks.specs.TilesOf.{tiles_of}
@@ -19,7 +19,7 @@ use Rattle.free_space.specs.Address.{letter_index, page_at}
 use Rattle.free_space.specs.Map.{layout_of, cell_at, Adds, Alters, Drops}
 use Rattle.free_space.specs.Changes.{GivesBack}
 use Rattle.free_space.specs.Placing.{grown, Places, Appends}
-use Rattle.free_space.specs.Store.{Knows, StandsFor, StaysOpen, Becomes, Relays, added, PlacesAt, AppendsAt, GetsEmpty, IsSaid, HoldsAt, StandsAt}
+use Rattle.free_space.specs.Store.{Knows, StandsFor, StaysOpen, Becomes, Relays, Writes, Grows, added, PlacesAt, AppendsAt, GetsEmpty, IsSaid, HoldsAt, StandsAt}
 use Rattle.free_space.specs.Side.{IsFirst, lettered, are_letters, place_at, place_of, cell_in, side_cell}
 use Rattle.free_space.specs.SideCalls.{IsLetter, StandsForSide, StaysOpenOn, IsTold, Turns, SameCells, Finds, Holds, Lays, PlacesCell, AppendsCell, KeepsCells, IsSaidOf, set_of, cells_of, pages_upto}
 use Rattle.free_space.specs.SideLaws.{IsApart, StaysBeside}
@@ -267,11 +267,11 @@ all_cases (Err e) it f h = h e it
 pub same_there : (stores : List CellStore) (place : ℕ) (store : CellStore) → slice_get stores place ≡ Some store → stores ≡ slice_set stores place store
 same_there stores place store there = sym (ap (slice_set stores place) (sym (get_or_from_slice_get stores place store store there)) ∙ set-get_or stores place store)
 
-pub changes_in : {set other : SetId} {steady failed : Type 0} {old new : ShelfView} → set ≡ other → OnlyChanges set steady failed old new → OnlyChanges other steady failed old new
-changes_in {set} {other} {steady} {failed} {old} {new} same changes = subst (λ (s : SetId). OnlyChanges s steady failed old new) same changes
+pub writes_in : {most : ℕ} {set other : SetId} {steady failed : Type 0} {old new : ShelfView} → set ≡ other → Writes most set steady failed old new → Writes most other steady failed old new
+writes_in {most} {set} {other} {steady} {failed} {old} {new} same writes = subst (λ (s : SetId). Writes most s steady failed old new) same writes
 
-pub grows_in : {set other : SetId} {steady failed : Type 0} {old new : ShelfView} → set ≡ other → OnlyGrows (added set old new) set steady failed old new → OnlyGrows (added other old new) other steady failed old new
-grows_in {set} {other} {steady} {failed} {old} {new} same grows = subst (λ (s : SetId). OnlyGrows (added s old new) s steady failed old new) same grows
+pub grows_in : {most : ℕ} {set other : SetId} {steady failed : Type 0} {old new : ShelfView} (more : SetId → ℕ) → set ≡ other → Grows (more set) most set steady failed old new → Grows (more other) most other steady failed old new
+grows_in {most} {set} {other} {steady} {failed} {old} {new} more same grows = subst (λ (s : SetId). Grows (more s) most s steady failed old new) same grows
 
 -- ---- a cell that comes
 

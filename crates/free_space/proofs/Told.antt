@@ -2,14 +2,18 @@
 use Rattle.std.proofs.Common.{◌≡◌, ◌≢◌, ℕ, zero, suc, ◌≤◌, ◌⊎◌, inl, inr, true, Result, Ok, Err, List, [], ◌∷◌, ◌++◌, length, get_or, map, take, drop, Option, Some, None, refl, sym, ap, subst, ◌∙◌, arith}
 use Rattle.std.specs.Prelude.{slice_get, slice_set, IfSome}
 use Rattle.std.specs.Option.{option_map}
+use Rattle.std.specs.Result.{OnOk, OnErr, IsErrOf, MatchResult}
 use Rattle.std.proofs.lemmas.Bool.{cases_eq, cases_lt}
 use Rattle.std.proofs.lemmas.List.{length-set, map-set, map-append, length-append, take-take, drop-take, length-take-le}
 use Rattle.std.proofs.lemmas.Option.{slice_get_within, slice_get-get_or, slice_get-map}
 use Rattle.hal_base.specs.declared.place.Shape.{Shape}
 use Rattle.hal_base.specs.declared.pages.SetId.{SetId}
 use Rattle.hal_base.specs.Pages.{SameHead, empty_page}
+use Rattle.hal_base.specs.StoreCalls.{AreBlocks}
 use Rattle.hal_base.specs.ShelfCalls.{ShelfView, SameShelf, GrownBy, OnlyReads, SameHeads, KeepsHeads}
-use Rattle.hal_base.proofs.ShelfLemmas.{same_none}
+use Rattle.hal_base.specs.declared.outcome.PageFault.{PageFault}
+use Rattle.hal_base.specs.declared.outcome.PageFault.TheVariants.{Failed}
+use Rattle.hal_base.proofs.ShelfLemmas.{same_none, reads_as, reads_changes}
 use Rattle.segment_blocks.specs.declared.tile.Tile.{Tile}
 use Rattle.segment_blocks.specs.Tiling.{IsTiling}
 use Rattle.segment_blocks.specs.TilesOf.{tiles_of}
@@ -20,7 +24,7 @@ use Rattle.segment_blocks.specs.Space.{space_of}
 use Rattle.free_space.specs.Changes.{Replaces}
 use Rattle.free_space.specs.Map.{layout_of}
 use Rattle.free_space.specs.Placing.{grown}
-use Rattle.free_space.specs.Store.{Knows, StandsFor, StaysOpen, SameFront, Becomes, Relays, added, IsPage, HasPut}
+use Rattle.free_space.specs.Store.{Knows, StandsFor, StaysOpen, SameFront, Becomes, Relays, Writes, added, IsPage, HasPut}
 
 pub some_is : {X : Type 0} (x y : X) → Some x ≡ Some y → x ≡ y
 some_is {X} x y is = cc
@@ -282,6 +286,46 @@ some_heads set shapes (Some pages) new Leads become = let b = become pages refl 
 pub relays_heads : (store : CellStore) (old new : ShelfView) (Leads : List (List Tile) → List (List Tile) → Type 0) → Relays store old new Leads → KeepsHeads SameFront 1 store.set old new
 relays_heads store old new Leads relays = some_heads store.set store.shapes (old.pages store.set) (new.pages store.set) Leads relays
 
+pub heads_same : (set : SetId) (old new : ShelfView) → SameShelf old new → KeepsHeads SameFront 1 set old new
+heads_same set old new same = subst (λ (o : Option (List (List ℕ))). IfSome (old.pages set) (λ before. IfSome o (SameHeads SameFront 1 set before))) (sym (same.pages set)) (each (old.pages set))
+  where
+    each : (o : Option (List (List ℕ))) → IfSome o (λ before. IfSome o (SameHeads SameFront 1 set before))
+    each None = tt
+    each (Some pages) = heads_none set pages
+
+-- heads are kept over two calls, each of which keeps them
+keeps_on : (set : SetId) (m n : ℕ) (a b c : Option (List (List ℕ))) → AreBlocks m a → AreBlocks n b → m ≤ n → (b ≡ None → c ≡ None) → IfSome a (λ before. IfSome b (SameHeads SameFront 1 set before))
+    → IfSome b (λ before. IfSome c (SameHeads SameFront 1 set before)) → IfSome a (λ before. IfSome c (SameHeads SameFront 1 set before))
+keeps_on set m n None b c was is more untold first second = tt
+keeps_on set m n (Some x) None c was is more untold first second = subst (λ (o : Option (List (List ℕ))). IfSome o (SameHeads SameFront 1 set x)) (sym (untold refl)) tt
+keeps_on set m n (Some x) (Some y) None was is more untold first second = tt
+keeps_on set m n (Some x) (Some y) (Some z) was is more untold first second = heads_then set x y z (omega (arith, was.0, is.0, more)) first second
+
+pub keeps_heads_then : (set : SetId) (a b c : ShelfView) → AreBlocks (length (a.places set)) (a.pages set) → AreBlocks (length (b.places set)) (b.pages set) → length (a.places set) ≤ length (b.places set) → (b.pages set ≡ None → c.pages set ≡ None)
+    → KeepsHeads SameFront 1 set a b → KeepsHeads SameFront 1 set b c → KeepsHeads SameFront 1 set a c
+keeps_heads_then set a b c was is more untold first second = keeps_on set (length (a.places set)) (length (b.places set)) (a.pages set) (b.pages set) (c.pages set) was is more untold first second
+
+-- whichever the answer was
+pub heads_either : {T E : Type 0} (store : CellStore) (old new : ShelfView) (Leads : List (List Tile) → List (List Tile) → Type 0) (r : Result T E) → OnOk r (Relays store old new Leads) → OnErr r (SameShelf old new)
+    → KeepsHeads SameFront 1 store.set old new
+heads_either store old new Leads (Ok x) changed same = relays_heads store old new Leads changed
+heads_either store old new Leads (Err e) changed same = heads_same store.set old new same
+
+pub heads_match : {T E : Type 0} (store : CellStore) (old new : ShelfView) (P : T → List (List Tile) → List (List Tile) → Type 0) (Q : List (List Tile) → List (List Tile) → Type 0) (r : Result T E)
+    → MatchResult r (λ x. Relays store old new (P x)) (λ e. Relays store old new Q) → KeepsHeads SameFront 1 store.set old new
+heads_match store old new P Q (Ok x) relays = relays_heads store old new (P x) relays
+heads_match store old new P Q (Err e) relays = relays_heads store old new Q relays
+
+-- ---- calls that ended before they wrote
+
+pub writes_read : {m : ℕ} {steady failed : Type 0} {old new : ShelfView} (most : ℕ) (set : SetId) → OnlyReads m steady failed old new → m ≤ most → Writes most set steady failed old new
+writes_read {m} {steady} {failed} {old} {new} most set reads le = record { changes = reads_changes set reads; heads = heads_same set old new reads.same; few = omega (arith, reads.few, le) }
+
+-- with the error of another that only read
+pub writes_err : {T U : Type 0} {m : ℕ} {steady : Type 0} {old new : ShelfView} (most : ℕ) (set : SetId) (r : Result T PageFault) (s : Result U PageFault) (x y : PageFault) → s ≡ Err x → x ≡ y → r ≡ Err y
+    → OnlyReads m steady (IsErrOf r Failed) old new → m ≤ most → Writes most set steady (IsErrOf s Failed) old new
+writes_err most set r s x y first same was reads le = writes_read most set (reads_as reads (handed_to r s x y Failed first same was) (handed_on r s x y Failed first same was)) le
+
 -- ---- calls that read pages one after the other
 
 -- before the first of them
@@ -296,3 +340,6 @@ reads_none shelf is_steady live = record {
   same = same_none shelf;
   few = omega arith;
 }
+
+pub writes_none : {steady failed : Type 0} (most : ℕ) (set : SetId) (shelf : ShelfView) → steady → shelf.live ≡ true → (failed → ⊥) → Writes most set steady failed shelf shelf
+writes_none most set shelf is_steady live never = writes_read most set (reads_as (reads_none shelf is_steady live) (λ no. absurd no) never) (omega arith)

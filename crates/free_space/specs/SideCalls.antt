@@ -4,7 +4,7 @@ use Rattle.hal_base.specs.declared.outcome.PageFault.{PageFault}
 use Rattle.hal_base.specs.declared.outcome.PageFault.TheVariants.{NoRoom}
 use Rattle.hal_base.specs.declared.pages.SetId.{SetId}
 use Rattle.hal_base.specs.declared.place.Shape.{Shape}
-use Rattle.hal_base.specs.ShelfCalls.{ShelfView, SameShelf, OnlyChanges, OnlyGrows}
+use Rattle.hal_base.specs.ShelfCalls.{ShelfView, SameShelf, OnlyChanges}
 use Rattle.segment_blocks.specs.declared.tile.Cell.{Cell}
 use Rattle.segment_blocks.specs.declared.tile.Tile.{Tile}
 use Rattle.free_space.specs.declared.listing.PlacedCell.{PlacedCell}
@@ -15,7 +15,7 @@ use Rattle.free_space.specs.Listing.{ListsPage}
 use Rattle.free_space.specs.Map.{layout_of, Adds, Alters, Drops}
 use Rattle.free_space.specs.Opening.{FirstBreaksAt}
 use Rattle.free_space.specs.Placing.{length_of, opened_pages, grown, NoHoleFits, NoPlace, Places, Appends}
-use Rattle.free_space.specs.Store.{AreTiled, StandsFor, Becomes, added}
+use Rattle.free_space.specs.Store.{AreTiled, StandsFor, Becomes, Writes, Grows, added}
 use Rattle.free_space.specs.Side.{IsFirst, lettered, place_at, are_letters, place_of, side_cell}
 
 -- the store is open on the letter at a place
@@ -71,15 +71,20 @@ set_at side at = lettered side.first (place_at at)
 abbrev pub set_of : SideCells → Cell → SetId
 set_of side cell = lettered side.first (place_of side.letters cell.code)
 
--- a call that changes the data set of an address, and one that changes that of a cell's type and adds the pages that it has got
+-- a call that changes no data set but that of an address; and one that keeps the heads of its pages too, and reads at most so many
 abbrev pub OnlyChangesAt : SideCells → ℕ → Type 0 → Type 0 → ShelfView → ShelfView → Type 0
 OnlyChangesAt side at steady failed old new = OnlyChanges (set_at side at) steady failed old new
 
+abbrev pub WritesAt : ℕ → SideCells → ℕ → Type 0 → Type 0 → ShelfView → ShelfView → Type 0
+WritesAt most side at steady failed old new = Writes most (set_at side at) steady failed old new
+
+-- the same of the data set of a cell's type, which gets at most so many pages more
+abbrev pub GrowsFor : ℕ → ℕ → SideCells → Cell → Type 0 → Type 0 → ShelfView → ShelfView → Type 0
+GrowsFor more most side cell steady failed old new = Grows more most (set_of side cell) steady failed old new
+
+-- how many pages the data set of a cell's type has got
 abbrev pub added_for : SideCells → Cell → ShelfView → ShelfView → ℕ
 added_for side cell old new = added (set_of side cell) old new
-
-abbrev pub GrowsFor : SideCells → Cell → Type 0 → Type 0 → ShelfView → ShelfView → Type 0
-GrowsFor side cell steady failed old new = OnlyGrows (added_for side cell old new) (set_of side cell) steady failed old new
 
 -- so of the tiles of a data set, where its pages are told
 abbrev pub Lays : List Shape → SetId → ShelfView → ShelfView → (List (List Tile) → List (List Tile) → Type 0) → Type 0

@@ -1,9 +1,9 @@
 -- A store of cells beside the shelf that holds its pages.
-use Rattle.std.specs.Prelude.{◌≡◌, ℕ, ◌-◌, ◌<◌, ◌≤◌, List, length, map, take, slice_get, slice_set, Option, Some}
+use Rattle.std.specs.Prelude.{◌≡◌, ℕ, ◌+◌, ◌-◌, ◌<◌, ◌≤◌, List, length, map, take, slice_get, slice_set, Option, Some}
 use Rattle.std.specs.Option.{option_map}
 use Rattle.hal_base.specs.declared.pages.SetId.{SetId}
 use Rattle.hal_base.specs.declared.place.Shape.{Shape}
-use Rattle.hal_base.specs.ShelfCalls.{ShelfView, GrownBy, OnlyGrows, SameHeads}
+use Rattle.hal_base.specs.ShelfCalls.{ShelfView, GrownBy, OnlyChanges, OnlyGrows, SameHeads, KeepsHeads}
 use Rattle.segment_blocks.specs.declared.tile.Cell.{Cell}
 use Rattle.segment_blocks.specs.declared.tile.Tile.{Tile}
 use Rattle.segment_blocks.specs.Tiling.{shape_of, IsTiling}
@@ -67,9 +67,18 @@ AppendsAt store cell fbff fspf old new at = Relays store old new (Appends store.
 abbrev pub GetsEmpty : CellStore → ShelfView → ShelfView → Type 0
 GetsEmpty store old new = Relays store old new (λ layout now. now ≡ grown (added store.set old new) layout)
 
--- a call that changes pages of the set and adds those that it has got
-abbrev pub Grows : CellStore → Type 0 → Type 0 → ShelfView → ShelfView → Type 0
-Grows store steady failed old new = OnlyGrows (added store.set old new) store.set steady failed old new
+-- a call that changes pages of one data set: each page keeps its head, and so many pages are read at most
+pub record Writes (most : ℕ) (set : SetId) (steady failed : Type 0) (old new : ShelfView) : Type 0 where
+  pub changes : OnlyChanges set steady failed old new
+  pub heads : KeepsHeads SameFront 1 set old new
+  pub few : new.fetches ≤ old.fetches + most
+
+-- one that may add pages too, at most so many; each has the head of an empty page
+pub record Grows (more most : ℕ) (set : SetId) (steady failed : Type 0) (old new : ShelfView) : Type 0 where
+  pub changes : OnlyGrows (added set old new) set steady failed old new
+  pub heads : KeepsHeads SameFront 1 set old new
+  pub at_most : added set old new ≤ more
+  pub few : new.fetches ≤ old.fetches + most
 
 -- so of the layout, where the pages are told
 abbrev pub IsSaid : CellStore → ShelfView → (List (List Tile) → Type 0) → Type 0

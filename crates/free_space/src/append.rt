@@ -81,6 +81,7 @@ impl CellStore {
         ensures room { result ≡ Err PageFault.NoRoom → ⊥ }
         ensures stays { StaysOpen self.old self.new (H.seen shelf.new) }
         ensures leaves { OnlyChanges self.old.set (H.steady shelf.old shelf.new) (IsErrOf result PageFault.Failed) (H.seen shelf.old) (H.seen shelf.new) }
+        ensures few { (H.seen shelf.new).fetches ≤ (H.seen shelf.old).fetches + 1 }
     {
         let len = cell_size(self.shape_for(cell));
         let mut block = [0; BLOCK];
@@ -104,6 +105,7 @@ impl CellStore {
         ensures no_room { IsErrOf result PageFault.NoRoom → length (H.seen shelf.old).free < opened_pages fbff (length self.old.spaces.pages.items) }
         ensures stays { StaysOpen self.old self.new (H.seen shelf.new) }
         ensures keeps { Keeps (H.steady shelf.old shelf.new) (IsErrOf result PageFault.Failed) (H.seen shelf.old) (H.seen shelf.new) }
+        ensures fetches { (H.seen shelf.new).fetches ≡ (H.seen shelf.old).fetches }
     {
         if !is_due(fbff, self.spaces.pages.len()) {
             return self.add_page(shelf);
@@ -132,11 +134,11 @@ impl CellStore {
             (λ _. GetsEmpty self.old (H.seen shelf.old) (H.seen shelf.new)) }
         ensures no_room { IsErrOf result PageFault.NoRoom → (length (H.seen shelf.old).free < opened_pages fbff (length ((H.seen shelf.old).places self.old.set)))
             × IsSaid self.old (H.seen shelf.old) (NoPlace fbff fspf (length_of cell.now)) }
-        ensures few { added self.old.set (H.seen shelf.old) (H.seen shelf.new) ≤ opened_pages fbff (length ((H.seen shelf.old).places self.old.set)) }
         ensures opened { OnOk result (0 < added self.old.set (H.seen shelf.old) (H.seen shelf.new) →
             added self.old.set (H.seen shelf.old) (H.seen shelf.new) ≡ opened_pages fbff (length ((H.seen shelf.old).places self.old.set))) }
         ensures stays { StaysOpen self.old self.new (H.seen shelf.new) }
-        ensures leaves { Grows self.old (H.steady shelf.old shelf.new) (IsErrOf result PageFault.Failed) (H.seen shelf.old) (H.seen shelf.new) }
+        ensures leaves { Grows (opened_pages fbff (length ((H.seen shelf.old).places self.old.set))) 1 self.old.set (H.steady shelf.old shelf.new)
+            (IsErrOf result PageFault.Failed) (H.seen shelf.old) (H.seen shelf.new) }
     {
         let len = cell_size(self.shape_for(cell));
         match page_with_room(&self.spaces.pages, fbff, fspf, len) {

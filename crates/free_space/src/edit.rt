@@ -1,11 +1,11 @@
 // One cell read, and changed where it stands.
 ghost use Rattle.std.specs.Prelude.{◌≡◌, ◌≢◌, List as ListOf, None, Some, take, IfOk, OnOk, OnErr, IsErrOf, IsTrue, ⊤};
-ghost use Rattle.hal_base.specs.ShelfCalls.{SameShelf, OnlyReads, OnlyChanges};
+ghost use Rattle.hal_base.specs.ShelfCalls.{SameShelf, OnlyReads};
 ghost use Rattle.segment_blocks.specs.declared.tile.Tile.{Tile as TileOf};
 ghost use Rattle.segment_blocks.specs.Tiling.{IsTiling};
 ghost use Rattle.segment_blocks.specs.TilesOf.{cell_among};
 ghost use Rattle.free_space.specs.Changes.{changed, Rewrites, Rewritten};
-ghost use Rattle.free_space.specs.Store.{StandsFor, Relays, HoldsAt, StandsAt};
+ghost use Rattle.free_space.specs.Store.{StandsFor, Relays, HoldsAt, StandsAt, Writes};
 
 use crate::CellStore;
 use crate::address::{has_letter, offset_of, page_of};
@@ -97,7 +97,7 @@ impl CellStore {
         ensures unchanged { OnErr result (SameShelf (H.seen shelf.old) (H.seen shelf.new)) }
         ensures room { result ≡ Err PageFault.NoRoom → ⊥ }
         ensures stands { StandsFor self.now (H.seen shelf.new) }
-        ensures leaves { OnlyChanges self.now.set (H.steady shelf.old shelf.new) (IsErrOf result PageFault.Failed) (H.seen shelf.old) (H.seen shelf.new) }
+        ensures leaves { Writes 1 self.now.set (H.steady shelf.old shelf.new) (IsErrOf result PageFault.Failed) (H.seen shelf.old) (H.seen shelf.new) }
     {
         let page = page_of(at);
         let mut block = [0; BLOCK];

@@ -1,8 +1,8 @@
 // A cell that is given back.
 ghost use Rattle.std.specs.Prelude.{◌≡◌, false, OnOk, OnErr, IsErrOf, IsTrue};
-ghost use Rattle.hal_base.specs.ShelfCalls.{SameShelf, OnlyChanges};
+ghost use Rattle.hal_base.specs.ShelfCalls.{SameShelf};
 ghost use Rattle.free_space.specs.Changes.{GivesBack};
-ghost use Rattle.free_space.specs.Store.{StandsFor, StaysOpen, Relays, HoldsAt};
+ghost use Rattle.free_space.specs.Store.{StandsFor, StaysOpen, Relays, HoldsAt, Writes};
 
 use crate::CellStore;
 use crate::address::{offset_of, page_of};
@@ -20,7 +20,7 @@ impl CellStore {
         ensures unchanged { OnErr result (SameShelf (H.seen shelf.old) (H.seen shelf.new)) }
         ensures room { result ≡ Err PageFault.NoRoom → ⊥ }
         ensures stays { StaysOpen self.old self.new (H.seen shelf.new) }
-        ensures leaves { OnlyChanges self.old.set (H.steady shelf.old shelf.new) (IsErrOf result PageFault.Failed) (H.seen shelf.old) (H.seen shelf.new) }
+        ensures leaves { Writes 1 self.old.set (H.steady shelf.old shelf.new) (IsErrOf result PageFault.Failed) (H.seen shelf.old) (H.seen shelf.new) }
     {
         let page = page_of(at);
         let mut block = [0; BLOCK];

@@ -33,6 +33,7 @@ impl CellStore {
         ensures no_room { IsErrOf result PageFault.NoRoom → (H.seen shelf.old).free ≡ [] }
         ensures stays { StaysOpen self.old self.new (H.seen shelf.new) }
         ensures keeps { Keeps (H.steady shelf.old shelf.new) (IsErrOf result PageFault.Failed) (H.seen shelf.old) (H.seen shelf.new) }
+        ensures fetches { (H.seen shelf.new).fetches ≡ (H.seen shelf.old).fetches }
     {
         let Ok(()) = self.spaces.make_slot() else {
             return Err(PageFault::Memory);
@@ -71,6 +72,7 @@ impl CellStore {
         ensures room { result ≡ Err PageFault.NoRoom → ⊥ }
         ensures stays { StaysOpen self.old self.new (H.seen shelf.new) }
         ensures leaves { OnlyChanges self.old.set (H.steady shelf.old shelf.new) (IsErrOf result PageFault.Failed) (H.seen shelf.old) (H.seen shelf.new) }
+        ensures fetches { (H.seen shelf.new).fetches ≡ (H.seen shelf.old).fetches }
     {
         let shape = self.shape_for(cell);
         fill(block, shape, gap, cell);

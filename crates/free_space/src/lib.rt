@@ -11,7 +11,8 @@
 //! letters, and finds that of an address by the letter in it.
 //!
 //! A call is said by what it answers, by what it makes of the tiles of all pages and of the map from address to cell,
-//! by what it leaves alone, and by when each fault comes. The store stands for its data set before and after it.
+//! by what it leaves alone, and by when each fault comes. It reads one page at most, and each page keeps its head. The
+//! store stands for its data set before and after it.
 //!
 //! `store.rt` has the store, `side.rt` the side
 //! `open.rt`, `place.rt`, `append.rt`, `freeing.rt`, `setting.rt` the calls on a store; `edit.rt` finds and changes a cell

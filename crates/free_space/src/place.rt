@@ -1,8 +1,8 @@
 // A new cell in the lowest hole in which it has place.
-ghost use Rattle.std.specs.Prelude.{◌≡◌, ◌≤◌, [], length, IfOk, MatchResult, OnOk, OnErr, IsErrOf, IsTrue};
+ghost use Rattle.std.specs.Prelude.{◌≡◌, ◌+◌, ◌≤◌, [], length, IfOk, MatchResult, OnOk, OnErr, IsErrOf, IsTrue};
 ghost use Rattle.hal_base.specs.ShelfCalls.{SameShelf, OnlyChanges};
 ghost use Rattle.free_space.specs.Placing.{length_of, NoHoleFits, PlacesIn};
-ghost use Rattle.free_space.specs.Store.{StandsFor, StaysOpen, Relays, PlacesAt, GetsEmpty, Grows, IsSaid, added, IsTyped};
+ghost use Rattle.free_space.specs.Store.{StandsFor, StaysOpen, Relays, PlacesAt, GetsEmpty, Grows, IsSaid, IsTyped};
 
 use crate::CellStore;
 use crate::tiles::first_gap;
@@ -25,6 +25,7 @@ impl CellStore {
         ensures room { result ≡ Err PageFault.NoRoom → ⊥ }
         ensures stays { StaysOpen self.old self.new (H.seen shelf.new) }
         ensures leaves { OnlyChanges self.old.set (H.steady shelf.old shelf.new) (IsErrOf result PageFault.Failed) (H.seen shelf.old) (H.seen shelf.new) }
+        ensures few { (H.seen shelf.new).fetches ≤ (H.seen shelf.old).fetches + 1 }
     {
         let len = cell_size(self.shape_for(cell));
         let mut block = [0; BLOCK];
@@ -48,9 +49,8 @@ impl CellStore {
             (λ _. GetsEmpty self.old (H.seen shelf.old) (H.seen shelf.new)) }
         ensures no_room { IsErrOf result PageFault.NoRoom → ((H.seen shelf.old).free ≡ []) × SameShelf (H.seen shelf.old) (H.seen shelf.new)
             × IsSaid self.old (H.seen shelf.old) (NoHoleFits (length_of cell.now)) }
-        ensures few { added self.old.set (H.seen shelf.old) (H.seen shelf.new) ≤ 1 }
         ensures stays { StaysOpen self.old self.new (H.seen shelf.new) }
-        ensures leaves { Grows self.old (H.steady shelf.old shelf.new) (IsErrOf result PageFault.Failed) (H.seen shelf.old) (H.seen shelf.new) }
+        ensures leaves { Grows 1 1 self.old.set (H.steady shelf.old shelf.new) (IsErrOf result PageFault.Failed) (H.seen shelf.old) (H.seen shelf.new) }
     {
         let len = cell_size(self.shape_for(cell));
         match self.spaces.first_page(len) {

@@ -1,8 +1,8 @@
 // The changes of one cell. It keeps its place, and all other cells stay.
 ghost use Rattle.std.specs.Prelude.{◌≡◌, true, length, OnOk, OnErr, IsErrOf, IsTrue, ⊤};
-ghost use Rattle.hal_base.specs.ShelfCalls.{SameShelf, OnlyChanges};
+ghost use Rattle.hal_base.specs.ShelfCalls.{SameShelf};
 ghost use Rattle.free_space.specs.Changes.{Rewrites};
-ghost use Rattle.free_space.specs.Store.{StandsFor, Relays, HoldsAt};
+ghost use Rattle.free_space.specs.Store.{StandsFor, Relays, HoldsAt, Writes};
 
 use crate::CellStore;
 use crate::change::Change;
@@ -25,7 +25,7 @@ impl CellStore {
         ensures unchanged { OnErr result (SameShelf (H.seen shelf.old) (H.seen shelf.new)) }
         ensures room { result ≡ Err PageFault.NoRoom → ⊥ }
         ensures stands { StandsFor self.now (H.seen shelf.new) }
-        ensures leaves { OnlyChanges self.now.set (H.steady shelf.old shelf.new) (IsErrOf result PageFault.Failed) (H.seen shelf.old) (H.seen shelf.new) }
+        ensures leaves { Writes 1 self.now.set (H.steady shelf.old shelf.new) (IsErrOf result PageFault.Failed) (H.seen shelf.old) (H.seen shelf.new) }
     {
         let Ok(children) = List::from_slice(self.alloc, children.as_slice()) else {
             return Err(PageFault::Memory);
@@ -48,7 +48,7 @@ impl CellStore {
         ensures unchanged { OnErr result (SameShelf (H.seen shelf.old) (H.seen shelf.new)) }
         ensures room { result ≡ Err PageFault.NoRoom → ⊥ }
         ensures stands { StandsFor self.now (H.seen shelf.new) }
-        ensures leaves { OnlyChanges self.now.set (H.steady shelf.old shelf.new) (IsErrOf result PageFault.Failed) (H.seen shelf.old) (H.seen shelf.new) }
+        ensures leaves { Writes 1 self.now.set (H.steady shelf.old shelf.new) (IsErrOf result PageFault.Failed) (H.seen shelf.old) (H.seen shelf.new) }
     {
         let Ok(content) = content.copy() else {
             return Err(PageFault::Memory);
@@ -65,7 +65,7 @@ impl CellStore {
         ensures unchanged { OnErr result (SameShelf (H.seen shelf.old) (H.seen shelf.new)) }
         ensures room { result ≡ Err PageFault.NoRoom → ⊥ }
         ensures stands { StandsFor self.now (H.seen shelf.new) }
-        ensures leaves { OnlyChanges self.now.set (H.steady shelf.old shelf.new) (IsErrOf result PageFault.Failed) (H.seen shelf.old) (H.seen shelf.new) }
+        ensures leaves { Writes 1 self.now.set (H.steady shelf.old shelf.new) (IsErrOf result PageFault.Failed) (H.seen shelf.old) (H.seen shelf.new) }
     {
         self.rewrite(shelf, at, Change::Name(name))
     }
@@ -80,7 +80,7 @@ impl CellStore {
         ensures unchanged { OnErr result (SameShelf (H.seen shelf.old) (H.seen shelf.new)) }
         ensures room { result ≡ Err PageFault.NoRoom → ⊥ }
         ensures stands { StandsFor self.now (H.seen shelf.new) }
-        ensures leaves { OnlyChanges self.now.set (H.steady shelf.old shelf.new) (IsErrOf result PageFault.Failed) (H.seen shelf.old) (H.seen shelf.new) }
+        ensures leaves { Writes 1 self.now.set (H.steady shelf.old shelf.new) (IsErrOf result PageFault.Failed) (H.seen shelf.old) (H.seen shelf.new) }
     {
         self.rewrite(shelf, at, Change::Copied)
     }

@@ -2,7 +2,7 @@
 ghost use Rattle.std.specs.Prelude.{◌≡◌, ◌<◌, true, length, slice_set, Some, IfOk, IsErrOf, IsTrue, ⊤};
 ghost use Rattle.hal_base.specs.ShelfCalls.{OnlyReads};
 ghost use Rattle.free_space.specs.Changes.{changed};
-ghost use Rattle.free_space.specs.SideCalls.{StandsForSide, Finds, Holds, AltersCell, OnlyChangesAt};
+ghost use Rattle.free_space.specs.SideCalls.{StandsForSide, Finds, Holds, AltersCell, WritesAt};
 
 use crate::SideCells;
 use crate::change::Change;
@@ -50,7 +50,7 @@ impl SideCells {
         requires cell { Holds self.now (H.seen shelf.old) at (λ _. ⊤) }
         ensures alters { AltersCell result self.now at (changed change) (H.seen shelf.old) (H.seen shelf.new) }
         ensures stands { StandsForSide self.now (H.seen shelf.new) }
-        ensures leaves { OnlyChangesAt self.now at (H.steady shelf.old shelf.new) (IsErrOf result PageFault.Failed) (H.seen shelf.old) (H.seen shelf.new) }
+        ensures leaves { WritesAt 1 self.now at (H.steady shelf.old shelf.new) (IsErrOf result PageFault.Failed) (H.seen shelf.old) (H.seen shelf.new) }
     {
         let place = place_at(at);
         if place >= self.stores.len() {
@@ -66,7 +66,7 @@ impl SideCells {
         requires cell { Holds self.now (H.seen shelf.old) at (λ _. ⊤) }
         ensures alters { AltersCell result self.now at (λ cell. record cell { twin = twin }) (H.seen shelf.old) (H.seen shelf.new) }
         ensures stands { StandsForSide self.now (H.seen shelf.new) }
-        ensures leaves { OnlyChangesAt self.now at (H.steady shelf.old shelf.new) (IsErrOf result PageFault.Failed) (H.seen shelf.old) (H.seen shelf.new) }
+        ensures leaves { WritesAt 1 self.now at (H.steady shelf.old shelf.new) (IsErrOf result PageFault.Failed) (H.seen shelf.old) (H.seen shelf.new) }
     {
         self.rewrite(shelf, at, Change::Twin(twin))
     }
@@ -85,7 +85,7 @@ impl SideCells {
         ensures alters { AltersCell result self.now at (λ cell. record cell { children = slice_set cell.children place to })
             (H.seen shelf.old) (H.seen shelf.new) }
         ensures stands { StandsForSide self.now (H.seen shelf.new) }
-        ensures leaves { OnlyChangesAt self.now at (H.steady shelf.old shelf.new) (IsErrOf result PageFault.Failed) (H.seen shelf.old) (H.seen shelf.new) }
+        ensures leaves { WritesAt 1 self.now at (H.steady shelf.old shelf.new) (IsErrOf result PageFault.Failed) (H.seen shelf.old) (H.seen shelf.new) }
     {
         self.rewrite(shelf, at, Change::Child { place, to })
     }
@@ -102,7 +102,7 @@ impl SideCells {
         requires cell { Holds self.now (H.seen shelf.old) at (λ cell. length content ≡ length cell.content) }
         ensures alters { AltersCell result self.now at (λ cell. record cell { content = content }) (H.seen shelf.old) (H.seen shelf.new) }
         ensures stands { StandsForSide self.now (H.seen shelf.new) }
-        ensures leaves { OnlyChangesAt self.now at (H.steady shelf.old shelf.new) (IsErrOf result PageFault.Failed) (H.seen shelf.old) (H.seen shelf.new) }
+        ensures leaves { WritesAt 1 self.now at (H.steady shelf.old shelf.new) (IsErrOf result PageFault.Failed) (H.seen shelf.old) (H.seen shelf.new) }
     {
         self.rewrite(shelf, at, Change::Content(content))
     }
@@ -114,7 +114,7 @@ impl SideCells {
         requires cell { Holds self.now (H.seen shelf.old) at (λ _. ⊤) }
         ensures alters { AltersCell result self.now at (λ cell. record cell { name = name }) (H.seen shelf.old) (H.seen shelf.new) }
         ensures stands { StandsForSide self.now (H.seen shelf.new) }
-        ensures leaves { OnlyChangesAt self.now at (H.steady shelf.old shelf.new) (IsErrOf result PageFault.Failed) (H.seen shelf.old) (H.seen shelf.new) }
+        ensures leaves { WritesAt 1 self.now at (H.steady shelf.old shelf.new) (IsErrOf result PageFault.Failed) (H.seen shelf.old) (H.seen shelf.new) }
     {
         self.rewrite(shelf, at, Change::Name(name))
     }
@@ -126,7 +126,7 @@ impl SideCells {
         requires cell { Holds self.now (H.seen shelf.old) at (λ _. ⊤) }
         ensures alters { AltersCell result self.now at (λ cell. record cell { copied = true }) (H.seen shelf.old) (H.seen shelf.new) }
         ensures stands { StandsForSide self.now (H.seen shelf.new) }
-        ensures leaves { OnlyChangesAt self.now at (H.steady shelf.old shelf.new) (IsErrOf result PageFault.Failed) (H.seen shelf.old) (H.seen shelf.new) }
+        ensures leaves { WritesAt 1 self.now at (H.steady shelf.old shelf.new) (IsErrOf result PageFault.Failed) (H.seen shelf.old) (H.seen shelf.new) }
     {
         self.rewrite(shelf, at, Change::Copied)
     }

@@ -1,7 +1,7 @@
 // A cell that comes to a side or leaves it.
 ghost use Rattle.std.specs.Prelude.{◌≡◌, ◌≢◌, ◌≤◌, false, length, MatchResult, OnOk, OnErr, IsErrOf, IsTrue};
 ghost use Rattle.hal_base.specs.ShelfCalls.{SameShelf};
-ghost use Rattle.free_space.specs.SideCalls.{StandsForSide, StaysOpenOn, Holds, KeepsCells, DropsCell, PlacesCell, AppendsCell, HasNoRoom, HasNoRoomBehind, OnlyChangesAt, GrowsFor, added_for, opened_for, set_of};
+ghost use Rattle.free_space.specs.SideCalls.{StandsForSide, StaysOpenOn, Holds, KeepsCells, DropsCell, PlacesCell, AppendsCell, HasNoRoom, HasNoRoomBehind, WritesAt, GrowsFor, opened_for, set_of};
 ghost use Rattle.free_space.specs.Store.{IsTyped};
 
 use crate::SideCells;
@@ -21,9 +21,8 @@ impl SideCells {
         ensures placed { MatchResult result (PlacesCell self.old self.new cell.now (H.seen shelf.old) (H.seen shelf.new))
             (λ _. KeepsCells self.old self.new cell.now (H.seen shelf.old) (H.seen shelf.new)) }
         ensures no_room { IsErrOf result PageFault.NoRoom → HasNoRoom self.old cell.now (H.seen shelf.old) (H.seen shelf.new) }
-        ensures few { added_for self.old cell.now (H.seen shelf.old) (H.seen shelf.new) ≤ 1 }
         ensures stays { StaysOpenOn self.old self.new (H.seen shelf.new) }
-        ensures leaves { GrowsFor self.old cell.now (H.steady shelf.old shelf.new) (IsErrOf result PageFault.Failed) (H.seen shelf.old) (H.seen shelf.new) }
+        ensures leaves { GrowsFor 1 1 self.old cell.now (H.steady shelf.old shelf.new) (IsErrOf result PageFault.Failed) (H.seen shelf.old) (H.seen shelf.new) }
     {
         let place = self.place_of(cell);
         self.stores[place].place(shelf, cell)
@@ -49,9 +48,9 @@ impl SideCells {
         ensures appended { MatchResult result (AppendsCell self.old self.new cell.now fbff fspf (H.seen shelf.old) (H.seen shelf.new))
             (λ _. KeepsCells self.old self.new cell.now (H.seen shelf.old) (H.seen shelf.new)) }
         ensures no_room { IsErrOf result PageFault.NoRoom → HasNoRoomBehind self.old cell.now fbff fspf (H.seen shelf.old) }
-        ensures few { added_for self.old cell.now (H.seen shelf.old) (H.seen shelf.new) ≤ opened_for self.old cell.now fbff (H.seen shelf.old) }
         ensures stays { StaysOpenOn self.old self.new (H.seen shelf.new) }
-        ensures leaves { GrowsFor self.old cell.now (H.steady shelf.old shelf.new) (IsErrOf result PageFault.Failed) (H.seen shelf.old) (H.seen shelf.new) }
+        ensures leaves { GrowsFor (opened_for self.old cell.now fbff (H.seen shelf.old)) 1 self.old cell.now (H.steady shelf.old shelf.new)
+            (IsErrOf result PageFault.Failed) (H.seen shelf.old) (H.seen shelf.new) }
     {
         let place = self.place_of(cell);
         self.stores[place].append(shelf, cell, fbff, fspf)
@@ -64,7 +63,7 @@ impl SideCells {
         requires cell { Holds self.old (H.seen shelf.old) at (λ cell. cell.copied ≡ false) }
         ensures drops { DropsCell result self.old self.new at (H.seen shelf.old) (H.seen shelf.new) }
         ensures stays { StaysOpenOn self.old self.new (H.seen shelf.new) }
-        ensures leaves { OnlyChangesAt self.old at (H.steady shelf.old shelf.new) (IsErrOf result PageFault.Failed) (H.seen shelf.old) (H.seen shelf.new) }
+        ensures leaves { WritesAt 1 self.old at (H.steady shelf.old shelf.new) (IsErrOf result PageFault.Failed) (H.seen shelf.old) (H.seen shelf.new) }
     {
         let place = place_at(at);
         if place >= self.stores.len() {

@@ -47,7 +47,8 @@ pub fn given(alloc: Global, schema: Schema, rows: &[Given]) -> Result<Elements, 
     Ok(elements)
 }
 
-fn place_of(alloc: Global, place: u64, root: &[u8]) -> Result<Anchor, Memory> {
+/// The place that so many elements stand before, in the record of a root.
+pub fn place_of(alloc: Global, place: u64, root: &[u8]) -> Result<Anchor, Memory> {
     Ok(Anchor::At {
         name: Ilk {
             addr: (place % 1_000_000) as u32 * 16,
@@ -109,6 +110,20 @@ pub fn many(alloc: Global, schema: Schema, records: u16) -> Result<Elements, Mem
         let at = place_of(alloc, place + 3, root)?;
         elements.push(spot(alloc, at, (2, 2), root, b"02yy")?)?;
     }
+    Ok(elements)
+}
+
+/// A root with so many elements of the second type below it, and a root behind them.
+pub fn wide(alloc: Global, schema: Schema, twins: u16) -> Result<Elements, Memory> {
+    let mut elements = Elements::new(alloc, schema);
+    let at = place_of(alloc, 0, b"000")?;
+    elements.push(spot(alloc, at, (1, 1), b"000", b"000aa   ")?)?;
+    for twin in 0..twins {
+        let at = place_of(alloc, u64::from(twin) + 1, b"000")?;
+        elements.push(spot(alloc, at, (2, 2), b"00001", b"01xx")?)?;
+    }
+    let at = place_of(alloc, u64::from(twins) + 1, b"001")?;
+    elements.push(spot(alloc, at, (1, 1), b"001", b"001aa   ")?)?;
     Ok(elements)
 }
 

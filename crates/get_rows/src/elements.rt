@@ -3,26 +3,32 @@ ghost use Rattle.std.specs.Prelude.{◌≡◌, ◌+◌, ◌-◌, ◌^◌, ◌≤
 ghost use Rattle.std.proofs.Common.{refl};
 
 use hal_base::{Ilk, List, Live, Memory};
-use hal_schema::Schema;
+use hal_schema::{Field, IndexDef, Schema, portion};
 use position_state::{Anchor, Spot, Walk, WalkFault};
 use std::alloc::Global;
 
-/// Elements in hierarchic sequence, and how often they were looked at.
+/// Elements in hierarchic sequence, how often they were looked at, and how many blocks are free.
 #[derive(Drop)]
 pub struct Elements {
     schema: Schema,
     spots: List<Spot>,
     looks: u64,
+    free: u32,
 }
 
 impl Elements {
-    /// No elements, of a database of this schema.
+    /// No elements, of a database of this schema without a free block.
     pub fn new(alloc: Global, schema: Schema) -> Elements {
         Elements {
             schema,
             spots: List::new(alloc),
             looks: 0,
+            free: 0,
         }
+    }
+
+    pub fn set_free(&mut self, free: u32) {
+        self.free = free;
     }
 
     /// Puts an element behind the others.
@@ -45,6 +51,7 @@ impl Elements {
 
     fn count(&mut self)
         ensures schema { self.new.schema ≡ self.old.schema }
+        ensures free { self.new.free ≡ self.old.free }
         ensures looks { self.new.looks ≡ min (self.old.looks + 1) (2 ^ 64 - 1) }
     {
         self.looks = self.looks.saturating_add(1);
@@ -96,6 +103,21 @@ impl Elements {
         None
     }
 
+    /// The target of the entry of an index with a key.
+    fn target(&self, index: u8, key: &[u8]) -> Option<Ilk> {
+        let index = self.schema.indexes.as_slice().get(index as usize)?;
+        let mut target = None;
+        for spot in self.spots.as_slice() {
+            if spot.code == index.target {
+                target = name_of(spot);
+            }
+            if spot.code == index.source && has_entry_key(index, spot, key) {
+                return target;
+            }
+        }
+        None
+    }
+
     /// The last element before a place in the list whose level is below this.
     fn below(&self, place: usize, level: u8) -> Option<&Spot> {
         for spot in self.spots.as_slice()[..place.min(self.spots.len())]
@@ -117,6 +139,30 @@ fn is_named(spot: &Spot, wanted: Ilk) -> bool {
     }
 }
 
+fn name_of(spot: &Spot) -> Option<Ilk> {
+    match &spot.at {
+        Anchor::Front => None,
+        Anchor::At { name, .. } => Some(*name),
+    }
+}
+
+/// Whether the entry of an element of the source type has this key.
+fn has_entry_key(index: &IndexDef, spot: &Spot, key: &[u8]) -> bool {
+    let Some(rest) = behind_portions(key, index.search.as_slice(), spot.content.as_slice()) else {
+        return false;
+    };
+    behind_portions(rest, index.subseq.as_slice(), spot.key.as_slice()) == Some(&[])
+}
+
+/// What of a key is behind these fields of a content; none where it doesn't begin with them.
+fn behind_portions<'a>(key: &'a [u8], fields: &[Field], content: &[u8]) -> Option<&'a [u8]> {
+    let mut rest = key;
+    for field in fields {
+        rest = rest.strip_prefix(portion(content, field.start, field.bytes))?;
+    }
+    Some(rest)
+}
+
 fn copied(spot: Option<&Spot>) -> Result<Option<Spot>, Memory> {
     match spot {
         None => Ok(None),
@@ -133,7 +179,7 @@ impl Live for Elements {
 }
 
 impl Walk for Elements {
-    ghost seen = { λ e. record { schema = e.schema; forest = None; free = 0; faults = 0; looks = e.looks; live = true } };
+    ghost seen = { λ e. record { schema = e.schema; forest = None; free = e.free; faults = 0; looks = e.looks; live = true } };
 
     ghost alive = { λ e. refl };
 
@@ -176,10 +222,10 @@ impl Walk for Elements {
 
     fn taken(&mut self, index: u8, key: &[u8]) -> Result<Option<Ilk>, WalkFault> {
         self.count();
-        Ok(None)
+        Ok(self.target(index, key))
     }
 
     fn free(&self) -> u32 {
-        0
+        self.free
     }
 }

@@ -15,7 +15,7 @@ pub type Case = (&'static str, &'static str);
 pub type Counted = (&'static str, u64);
 
 /// A session that sees the database in hierarchic sequence, at its front.
-fn opened(alloc: Global, options: &[u8]) -> Result<Session, Memory> {
+pub fn opened(alloc: Global, options: &[u8]) -> Result<Session, Memory> {
     Ok(Session {
         options: Bytes::from_slice(alloc, options)?,
         index: None,
@@ -45,14 +45,14 @@ fn answer(
     Ok((text, decision.session))
 }
 
-/// The place of the first line whose reply isn't so, in a session that is opened with these options.
+/// The place of the first line whose reply isn't so.
 pub fn first_wrong(
     alloc: Global,
     elements: &mut Elements,
-    options: &[u8],
+    session: Session,
     cases: &[Case],
 ) -> Result<Option<usize>, WalkFault> {
-    let mut session = opened(alloc, options)?;
+    let mut session = session;
     for (place, (line, reply)) in cases.iter().enumerate() {
         let (text, after) = answer(alloc, elements, session, line)?;
         if text.as_slice() != reply.as_bytes() {
@@ -63,13 +63,14 @@ pub fn first_wrong(
     Ok(None)
 }
 
-/// The place of the first line that looks more often, in a session with all rights.
+/// The place of the first line that looks more often.
 pub fn first_longer(
     alloc: Global,
     elements: &mut Elements,
+    session: Session,
     cases: &[Counted],
 ) -> Result<Option<usize>, WalkFault> {
-    let mut session = opened(alloc, b"A")?;
+    let mut session = session;
     for (place, (line, most)) in cases.iter().enumerate() {
         let before = elements.looks();
         let (_, after) = answer(alloc, elements, session, line)?;

@@ -1,6 +1,9 @@
 // Gets of each kind and each of their statuses, and how often they look.
-use crate::{Case, Counted, Given, deep, first_longer, first_wrong, given, many, schema_of};
-use position_state::WalkFault;
+use crate::{
+    Case, Counted, Given, deep, first_longer, first_wrong, given, many, opened, place_of,
+    schema_of, wide,
+};
+use position_state::{Session, WalkFault};
 use std::alloc::Global;
 use std::test::Fail;
 
@@ -149,11 +152,21 @@ const LOOKS: [Counted; 11] = [
     ("S GN", 2),
     ("S GU R(A='zz')", 1_002),
     ("S GU R(K='500')", 1),
-    ("S GNP C(CK='02')", 4),
+    ("S GNP C(CK='02')", 5),
     ("S GN R(K='700')", 203),
     ("S GU C(CV='zz')", 3_002),
     ("S GU R(K='500')", 1),
     ("S GN R", 5),
+];
+
+const UNSEEN: [Counted; 7] = [
+    ("S GU R*Q", 0),
+    ("S GU R(Q='1')", 0),
+    ("S GU Q", 0),
+    ("S GU C R", 0),
+    ("S GNP", 0),
+    ("S GU R(K='001') : 'aa'", 0),
+    ("S GU R(K='99Z')", 0),
 ];
 
 /// The first of these lines whose reply isn't so, in a session with these options.
@@ -162,7 +175,7 @@ fn wrong(alloc: Global, options: &[u8], cases: &[Case]) -> Result<Option<usize>,
         return Ok(Some(1_000));
     };
     let mut elements = given(alloc, schema, ROWS.as_slice())?;
-    first_wrong(alloc, &mut elements, options, cases)
+    first_wrong(alloc, &mut elements, opened(alloc, options)?, cases)
 }
 
 fn wrong_of_deep(alloc: Global) -> Result<Option<usize>, WalkFault> {
@@ -170,15 +183,38 @@ fn wrong_of_deep(alloc: Global) -> Result<Option<usize>, WalkFault> {
         return Ok(Some(1_000));
     };
     let mut elements = deep(alloc, schema, 15)?;
-    first_wrong(alloc, &mut elements, b"G", OF_FIFTEEN_LEVELS.as_slice())
+    first_wrong(
+        alloc,
+        &mut elements,
+        opened(alloc, b"G")?,
+        OF_FIFTEEN_LEVELS.as_slice(),
+    )
 }
 
-fn longer(alloc: Global) -> Result<Option<usize>, WalkFault> {
+/// The first of these lines that looks more often, in a session over 1,000 records.
+fn longer(alloc: Global, session: Session, cases: &[Counted]) -> Result<Option<usize>, WalkFault> {
     let Some(schema) = schema_of(alloc, DBD, PARTS) else {
         return Ok(Some(1_000));
     };
     let mut elements = many(alloc, schema, 1_000)?;
-    first_longer(alloc, &mut elements, LOOKS.as_slice())
+    first_longer(alloc, &mut elements, session, cases)
+}
+
+/// The first of these lines that looks more often, where the first root has 1,000 dependents of one type.
+fn longer_in_a_wide_record(alloc: Global, cases: &[Counted]) -> Result<Option<usize>, WalkFault> {
+    let Some(schema) = schema_of(alloc, DBD, PARTS) else {
+        return Ok(Some(1_000));
+    };
+    let mut elements = wide(alloc, schema, 1_000)?;
+    first_longer(alloc, &mut elements, opened(alloc, b"A")?, cases)
+}
+
+/// A session at the root of one record, with the root of another as its parent.
+fn apart(alloc: Global, at: (u16, &[u8]), parent: (u16, &[u8])) -> Result<Session, WalkFault> {
+    let mut session = opened(alloc, b"A")?;
+    session.anchor = place_of(alloc, u64::from(at.0) * 4, at.1)?;
+    session.parent = Some(place_of(alloc, u64::from(parent.0) * 4, parent.1)?);
+    Ok(session)
 }
 
 #[test]
@@ -228,6 +264,44 @@ fn fifteen_levels(rt: HostRuntime) -> Result<(), Fail> {
 
 #[test]
 fn looks_of_each_kind(rt: HostRuntime) -> Result<(), Fail> {
-    assert_eq!(rt; longer(rt.alloc())?, None);
+    let session = opened(rt.alloc(), b"A")?;
+    assert_eq!(rt; longer(rt.alloc(), session, LOOKS.as_slice())?, None);
+    Ok(())
+}
+
+#[test]
+fn a_get_passes_over_what_no_ssa_asks_for(rt: HostRuntime) -> Result<(), Fail> {
+    let cases: [Counted; 4] = [
+        ("S GU C", 3),
+        ("S GN R", 4),
+        ("S GU R(A='zz')", 4),
+        ("S GU U", 1_004),
+    ];
+    assert_eq!(rt;
+        longer_in_a_wide_record(rt.alloc(), cases.as_slice())?,
+        None
+    );
+    Ok(())
+}
+
+#[test]
+fn a_gnp_walks_no_other_record(rt: HostRuntime) -> Result<(), Fail> {
+    let ahead = apart(rt.alloc(), (100, b"100"), (500, b"500"))?;
+    assert_eq!(rt;
+        longer(rt.alloc(), ahead, [("S GNP C(CK='02')", 6)].as_slice())?,
+        None
+    );
+    let behind = apart(rt.alloc(), (900, b"900"), (500, b"500"))?;
+    assert_eq!(rt;
+        longer(rt.alloc(), behind, [("S GNP C", 1)].as_slice())?,
+        None
+    );
+    Ok(())
+}
+
+#[test]
+fn a_refusal_by_text_or_session_looks_at_nothing(rt: HostRuntime) -> Result<(), Fail> {
+    let session = opened(rt.alloc(), b"A")?;
+    assert_eq!(rt; longer(rt.alloc(), session, UNSEEN.as_slice())?, None);
     Ok(())
 }

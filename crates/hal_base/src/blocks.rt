@@ -1,4 +1,5 @@
-ghost use Rattle.std.specs.Prelude.{◌≡◌, ◌+◌, ◌-◌, ◌^◌, ◌<◌, ◌≤◌, ℕ, Bool, true, None, Option, List, min, slice_get, slice_set, IfSome, OnOk, OnErr, IsErr, IsErrOf, IsTrue};
+ghost use Rattle.std.specs.Prelude.{◌≡◌, ◌+◌, ◌-◌, ◌^◌, ◌<◌, ◌≤◌, true, None, Some, min};
+ghost use Rattle.std.specs.Prelude.{slice_get, slice_set, IfSome, OnOk, OnErr, IsErr, IsErrOf, IsTrue};
 ghost use Rattle.std.specs.Option.{option_map};
 ghost use Rattle.hal_base.specs.Fault.{Fails};
 ghost use Rattle.hal_base.specs.Stops.{LeavesExactly};

@@ -1,6 +1,8 @@
-ghost use Rattle.std.specs.Prelude.{◌≡◌, ◌↔◌, ◌+◌, ◌-◌, ◌^◌, ◌<◌, ◌≤◌, ◌++◌, ◌∷◌, [], ℕ, Option, None, Some, length, min, replicate, slice_get, slice_set, All, IfOk, IfSome, OnOk, OnErr, IsErr, IsErrOf, IsTrue, MatchResult};
+ghost use Rattle.std.specs.Prelude.{◌≡◌, ◌↔◌, ◌+◌, ◌-◌, ◌^◌, ◌<◌, ◌≤◌, ◌++◌, ◌∷◌, [], ℕ, None, Some, length, min, replicate};
+ghost use Rattle.std.specs.Prelude.{slice_get, slice_set, IfOk, IfSome, OnOk, OnErr, IsErr, IsErrOf, IsTrue, MatchResult};
 ghost use Rattle.std.specs.Option.{option_map};
 ghost use Rattle.hal_base.specs.Pages.{empty_page, page_head, rises_from, SameHead};
+ghost use Rattle.hal_base.specs.StoreCalls.{AreBlocks};
 ghost use Rattle.hal_base.specs.ShelfCalls.{ShelfView, Keeps, SameShelf, GrownBy, OnlyReads, OnlyChanges};
 
 use crate::{BLOCK, Failed, Live, PageFault, StageFault, put16};
@@ -67,7 +69,8 @@ pub trait Shelf: Live {
         requires head { IfSome ((seen self.old).pages set) (λ pages. IfSome (slice_get pages n) (λ page. SameHead page from.now)) }
         ensures page { OnOk result ((seen self.new).pages set ≡ option_map (λ pages. slice_set pages n from.now) ((seen self.old).pages set)) }
         ensures unchanged { OnErr result (SameShelf (seen self.old) (seen self.new)) }
-        ensures leaves { OnlyChanges set (steady self.old self.new) (IsErrOf result StageFault.Failed) (seen self.old) (seen self.new) };
+        ensures leaves { OnlyChanges set (steady self.old self.new) (IsErrOf result StageFault.Failed) (seen self.old) (seen self.new) }
+        ensures fetches { (seen self.new).fetches ≡ (seen self.old).fetches };
 
     /// Adds an empty page to a data set, and answers its number. It takes the free block of least number.
     fn grow(&mut self, set: SetId, kind: u8) -> Result<u16, PageFault>
@@ -77,12 +80,13 @@ pub trait Shelf: Live {
         ensures page { IfOk result (λ n. (seen self.new).pages set ≡ option_map (λ pages. pages ++ empty_page kind set n ∷ []) ((seen self.old).pages set)) }
         ensures leaves { MatchResult result (λ n. GrownBy 1 set (seen self.old) (seen self.new)) (λ fault. SameShelf (seen self.old) (seen self.new)) }
         ensures no_room { IsErrOf result PageFault.NoRoom ↔ ((seen self.old).free ≡ []) }
-        ensures keeps { Keeps (steady self.old self.new) (IsErrOf result PageFault.Failed) (seen self.old) (seen self.new) };
+        ensures keeps { Keeps (steady self.old self.new) (IsErrOf result PageFault.Failed) (seen self.old) (seen self.new) }
+        ensures fetches { (seen self.new).fetches ≡ (seen self.old).fetches };
 
     ghost alive: { (shelf : Self) → (seen shelf).live ≡ Self.live shelf };
 
     /// A page has 4,096 bytes, and there is one for each block that the data set has.
-    ghost pages_are: { (shelf : Self) (set : SetId) → IfSome ((seen shelf).pages set) (λ pages. (length pages ≡ length ((seen shelf).places set)) × All (λ page. length page ≡ 4096) pages) };
+    ghost pages_are: { (shelf : Self) (set : SetId) → AreBlocks (length ((seen shelf).places set)) ((seen shelf).pages set) };
 
     /// The pages of all data sets are told, or those of none.
     ghost told_alike: { (shelf : Self) (set other : SetId) → (seen shelf).pages set ≡ None → (seen shelf).pages other ≡ None };

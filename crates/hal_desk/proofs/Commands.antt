@@ -10,16 +10,17 @@ use Rattle.hal_schema.specs.declared.raw.RawDbd.{RawDbd}
 use Rattle.hal_schema.specs.declared.raw.RawParts.{RawParts}
 use Rattle.hal_schema.specs.declared.raw.RawSchema.{RawSchema}
 use Rattle.hal_schema.specs.Places.{statement, partition}
-use Rattle.dbd_reader.specs.declared.fault.TextFault.{TextFault}
-use Rattle.dbd_reader.specs.declared.fault.TextFault.TheVariants as fault
-use Rattle.dbd_reader.specs.Definition.{meaning_of, Says}
+use Rattle.hal_schema.specs.declared.text_fault.TextFault.{TextFault}
+use Rattle.hal_schema.specs.declared.text_fault.TextFault.TheVariants as fault
+use Rattle.dbd_reader.specs.Definition.{meaning_of}
+use Rattle.hal_schema.specs.Reading.{Says}
 use Rattle.partition_reader.specs.Partitions.{partitions_of}
-use Rattle.hal_desk.specs.State.{empty_state}
+use Rattle.hal_desk.specs.Kdb.{kdb}
 use Rattle.hal_base.proofs.StopLemmas.{not_yet}
 use Rattle.hal_base.specs.Stops.{SaidFrom}
 use Rattle.hal_desk.specs.Says.{SaysLine, LineEnds}
 use Rattle.script_runs.specs.Script.{status_of, limit}
-use Rattle.hal_desk.specs.ThreeForms.{meaning}
+use Rattle.hal_desk.specs.Lists.{meaning, start_of}
 use Rattle.hal_desk.specs.Outside.{Outside, SiteView, Untouched, list_on}
 use Rattle.hal_desk.specs.Gathered.{Gathered, IsCut}
 use Rattle.hal_desk.specs.Define.{Broken, DefineEnds, RanDefine, answer_of, definition_of, judged, with_dbd, with_parts}
@@ -85,12 +86,12 @@ says_none line wanted site = record {
   room = record { stays = λ room is. (room, is, omega arith, omega arith); quiet = λ room is fit. refl };
 }
 
-call_not_begun : (before : Outside) → RanCall before before 8
+pub call_not_begun : (before : Outside) → RanCall before before 8
 call_not_begun before = record {
   ending = ending.Memory;
   status_is = refl;
-  end = empty_state;
-  ran = ran_cut meaning engine.Memory [] 1 limit before.source before.source (list_on before.site empty_state) (list_on before.site empty_state) [] (Consumes-nil before.source.left) (omega arith) (cut_none meaning None 1 (list_on before.site empty_state)) tt refl;
+  end = start_of [];
+  ran = ran_cut (meaning kdb) engine.Memory [] 1 limit before.source before.source (list_on before.site (start_of [])) (list_on before.site (start_of [])) [] (Consumes-nil before.source.left) (omega arith) (cut_none (meaning kdb) None 1 (list_on before.site (start_of []))) tt refl;
   forest = refl;
 }
 
@@ -152,7 +153,7 @@ ends_well None before after status text did tells within reads says = tt
 ends_well (Some (Define volume)) before after status text did tells within reads says = define_well before after status text did did.ends tells within reads says
 ends_well (Some (Call volume)) before after status text did tells within reads says =
     let never : Rose 0 0 → ⊥ = λ rose. omega (arith, rose) in
-    let c = complete meaning before.source after.source (list_on before.site empty_state) (list_on after.site did.end) did.ending text did.ran tells within reads says never in
+    let c = complete (meaning kdb) before.source after.source (list_on before.site (start_of [])) (list_on after.site did.end) did.ending text did.ran tells within reads says never in
     status_by status did.ending did.status_is c
 ends_well (Some (Load volume)) before after status text did tells within reads says = tt
 ends_well (Some (Unload volume)) before after status text did tells within reads says = tt

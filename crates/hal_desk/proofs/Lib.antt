@@ -2,10 +2,8 @@ pub mod Commands
 pub mod Complete
 pub mod Events
 pub mod Levels
-pub mod Numbered
 pub mod Parsed
-pub mod RootCase
+pub mod Rooms
+pub mod Standing
 pub mod Walks
 pub mod WordLemmas
-pub mod Rooms
-pub mod Kept

@@ -4,7 +4,7 @@ use Rattle.std.specs.Prelude.{IsSomeAnd}
 use Rattle.std.specs.Option.{option_map}
 use Rattle.hal_base.specs.Room.{HasRoom, HasSayRoom}
 use Rattle.script_runs.specs.Taken.{KeepsRoom}
-use Rattle.hal_desk.specs.declared.state.State.{State}
+use Rattle.call_runs.specs.declared.state.CallState.{CallState}
 use Rattle.hal_desk.specs.Outside.{SiteView, list_on}
 
 abbrev Fits : Option (List ℕ) → List ℕ → ℕ → Type 0
@@ -23,11 +23,11 @@ room_stays : (old new : Option (ℕ × ℕ)) (before now : ℕ) (fits : ℕ × �
 room_stays old new before now fits has = record { stays = has.stays; quiet = λ room is fit. refl }
 
 -- a say on the site, as the list's
-pub keeps_room : (a b : SiteView) (old new : State) (text : List ℕ) → HasRoom a.room b.room a.say_faults b.say_faults (λ room. Fits a.said text room.1) → KeepsRoom (list_on a old) (list_on b new) text
+pub keeps_room : (a b : SiteView) (old new : CallState) (text : List ℕ) → HasRoom a.room b.room a.say_faults b.say_faults (λ room. Fits a.said text room.1) → KeepsRoom (list_on a old) (list_on b new) text
 keeps_room a b old new text has = record {
   disk = said_room a.room b.room 0 0 (λ most. 0 ≤ most) (room_stays a.room b.room a.say_faults b.say_faults (λ room. Fits a.said text room.1) has);
   say = said_room a.room b.room a.say_faults b.say_faults (Fits a.said text) has;
 }
 
-pub same_room : (a : SiteView) (old new : State) (text : List ℕ) → KeepsRoom (list_on a old) (list_on a new) text
+pub same_room : (a : SiteView) (old new : CallState) (text : List ℕ) → KeepsRoom (list_on a old) (list_on a new) text
 same_room a old new text = keeps_room a a old new text (record { stays = λ room is. (room, is, omega arith, omega arith); quiet = λ room is fit. refl })

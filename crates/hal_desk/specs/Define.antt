@@ -9,8 +9,8 @@ use Rattle.hal_schema.specs.declared.raw.RawParts.{RawParts}
 use Rattle.hal_schema.specs.declared.raw.RawSchema.{RawSchema}
 use Rattle.hal_schema.specs.Places.{statement, partition}
 use Rattle.hal_schema.specs.Rules.{first_fault}
-use Rattle.dbd_reader.specs.declared.fault.TextFault.{TextFault}
-use Rattle.dbd_reader.specs.declared.fault.TextFault.TheVariants.{Rule, Memory}
+use Rattle.hal_schema.specs.declared.text_fault.TextFault.{TextFault}
+use Rattle.hal_schema.specs.declared.text_fault.TextFault.TheVariants.{Rule, Memory}
 use Rattle.dbd_reader.specs.Definition.{meaning_of}
 use Rattle.partition_reader.specs.Partitions.{partitions_of}
 use Rattle.hal_desk.specs.declared.define.Answer.{Answer}

@@ -6,7 +6,7 @@ use Rattle.hal_base.specs.declared.site.Site.{Ghosts as Site}
 use Rattle.hal_base.specs.declared.source.Source.{Ghosts as Source}
 use Rattle.script_runs.specs.Script.{SourceView, source_view}
 use Rattle.script_runs.specs.TakerView.{TakerView}
-use Rattle.hal_desk.specs.declared.state.State.{State}
+use Rattle.call_runs.specs.declared.state.CallState.{CallState}
 
 -- The image of a site as it reads, and what was said; its clock, and what a stop at each moment might have left; how often
 -- its disk and its say failed; how long its image and the said bytes may grow without a fault.
@@ -38,11 +38,15 @@ pub record Outside : Type 1 where
 abbrev pub outside : {X Y : Type 0} → Source X → Site Y → X → Y → Outside
 outside source_tells site_tells source site = record { source = source_view source_tells source; site = site_view site_tells site }
 
--- What is seen of a list that keeps no block, on a site on which its replies are said: it has no disk that could fail.
-abbrev pub list_on : SiteView → State → TakerView State
+abbrev pub list_blocks : ℕ
+list_blocks = 65536
+
+-- What is seen of a list that keeps no block, on a site on which its replies are said: it has no disk that could fail, and
+-- as many blocks free at any time.
+abbrev pub list_on : SiteView → CallState → TakerView CallState
 list_on site state = record {
   state = Some state;
-  free = 0;
+  free = list_blocks;
   said = site.said;
   moment = site.moment;
   left_at = Read (λ image. []) site.left_at;

@@ -1,25 +1,16 @@
 -- What the top call did.
-use Rattle.std.specs.Prelude.{ℕ, ◌≡◌, ◌⊎◌, Bool, true, false, Option, None, Some, IsTrue, codes, ⊤}
-use Rattle.hal_schema.specs.First.{first_schema}
-use Rattle.hal_schema.specs.Forest.{is_forest}
-use Rattle.script_runs.specs.Script.{RanScript, status_of}
-use Rattle.script_runs.specs.declared.ending.Ending.{Ending}
-use Rattle.hal_desk.specs.State.{empty_state}
-use Rattle.hal_desk.specs.declared.state.State.{State}
-use Rattle.hal_desk.specs.ThreeForms.{meaning}
-use Rattle.hal_desk.specs.Outside.{Outside, list_on}
+use Rattle.std.specs.Prelude.{ℕ, ◌≡◌, ◌⊎◌, Bool, true, false, [], Option, None, Some, codes, ⊤}
+use Rattle.hal_desk.specs.Kdb.{kdb}
+use Rattle.hal_desk.specs.Outside.{Outside}
+use Rattle.hal_desk.specs.Ran.{RanList}
 use Rattle.hal_desk.specs.Says.{SaysLine}
 use Rattle.hal_desk.specs.Define.{RanDefine}
 use Rattle.hal_desk.specs.declared.words.Command.{Command}
 use Rattle.hal_desk.specs.declared.words.Command.TheVariants.{Define, Call}
 
--- The script was run from the empty list on, to an ending with this status. What it leaves is a well-formed forest.
-pub record RanCall (before after : Outside) (status : ℕ) : Type 0 where
-  pub ending : Ending
-  pub status_is : status ≡ status_of ending
-  pub end : State
-  pub ran : RanScript meaning before.source after.source (list_on before.site empty_state) (list_on after.site end) ending
-  pub forest : IsTrue (is_forest first_schema end.forest)
+-- the script was run over KDB, from the empty list on
+abbrev pub RanCall : Outside → Outside → ℕ → Type 0
+RanCall before after status = RanList kdb [] before after status
 
 -- What a command did. Words that are no command are status 1; a command that isn't built yet is status 11.
 abbrev pub Did : Option Command → Outside → Outside → ℕ → Type 0

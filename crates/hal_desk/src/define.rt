@@ -8,9 +8,9 @@ ghost use Rattle.hal_desk.specs.Outside.{LeavesImage, outside, site_view};
 
 use crate::desk::{Ended, say_line};
 use crate::source::take_all;
-use dbd_reader::{TextFault, read_dbd};
+use dbd_reader::read_dbd;
 use hal_base::{Bytes, Memory, Site, Source};
-use hal_schema::{Place, RawSchema, Schema, SchemaFault};
+use hal_schema::{Place, RawSchema, Schema, SchemaFault, TextFault};
 use partition_reader::read_partitions;
 use std::alloc::Global;
 

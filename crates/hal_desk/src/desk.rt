@@ -4,9 +4,10 @@ ghost use Rattle.std.specs.String.{string_bytes};
 ghost use Rattle.hal_base.specs.Fault.{Rose};
 
 use crate::define::define;
-use crate::{Command, OneList, read_command, runs_keep_a_forest};
-use hal_base::{Memory, Site, Source};
-use script_runs::run_script;
+use crate::list_run::run_list;
+use crate::sample::kdb;
+use crate::{Command, read_command};
+use hal_base::{List, Memory, Site, Source};
 use std::alloc::Global;
 
 /// A command's exit status, and the site that it was run on.
@@ -23,10 +24,10 @@ ghost use Rattle.hal_desk.specs.Says.{SaysLine};
 ghost use Rattle.hal_desk.specs.Top.{Did, EndsWell, RanCall, reads_source};
 
 /// Runs one command. Words that are no command are refused, and nothing is read. `define VOLUME` checks the texts of a
-/// definition; `call VOLUME` answers a script over one list that begins empty.
+/// definition; `call VOLUME` answers a script over the sample database KDB, which begins empty.
 pub fn run<S: Source, T: Site>(alloc: Global, words: &[String], source: &mut S, site: T) -> Ended<T>
     // What the command did, and its status. Of `call`: what was said is the text of a run of the script's lines from the
-    // empty list.
+    // empty list of KDB.
     ensures did { Did (command_of (map string_bytes words.now))
         (outside S.Source T.Site source.old site)
         (outside S.Source T.Site source.new result.site)
@@ -79,7 +80,7 @@ fn not_built<T: Site>(site: T) -> Ended<T>
     say_line(site, b"refused not built\n", 11)
 }
 
-/// Answers the script of the source over one list.
+/// Answers the script of the source over the sample database KDB, which begins empty.
 fn call<S: Source, T: Site>(alloc: Global, source: &mut S, site: T) -> Ended<T>
     ensures ran { RanCall
         (outside S.Source T.Site source.old site)
@@ -88,12 +89,9 @@ fn call<S: Source, T: Site>(alloc: Global, source: &mut S, site: T) -> Ended<T>
     ensures leaves { LeavesImage (site_view T.Site site) (site_view T.Site result.site) }
     ensures later { (S.read_faults source.old ≤ S.read_faults source.new) × (T.say_faults site ≤ T.say_faults result.site) }
 {
-    runs_keep_a_forest();
-    let mut list = OneList::new(alloc, site);
-    let ending = run_script(alloc, source, &mut list);
-    Ended {
-        status: ending.status(),
-        site: list.into_site(),
+    match kdb(alloc) {
+        Err(Memory) => Ended { status: 8, site },
+        Ok(schema) => run_list(alloc, &schema, List::new(alloc), source, site),
     }
 }
 

@@ -3,29 +3,27 @@
 //! - `desk`: `run`, with the theorem of the program;
 //! - `words`, `grammar`: which words are a command, and how clap parses them; `volume`: which file they name;
 //! - `define`, `source`: a definition is checked, and a source is taken in whole;
-//! - `one_list`, `roots`, `form`, `laws`: one list of roots as a taker of lines, its lines, and that it is a forest's;
-//! - `state`: what lines change.
+//! - `list_run`: a script over a list of segments in memory; `list_taker`: the taker of its lines, over `call_list`, which
+//!   has the list and the sessions; `sample`: the sample database over which scripts run.
 //!
 //! The loop over the source, and what a run and a stop of it are, stand in `script_runs`.
 #![tactic(auto)]
 
+mod call_list;
 mod define;
 mod desk;
-mod form;
 mod grammar;
-mod laws;
-mod one_list;
-mod roots;
+mod list_run;
+mod list_taker;
+mod sample;
 mod source;
-mod state;
 mod volume;
 mod words;
 
+pub use call_list::CallList;
 pub use desk::{Ended, run};
-pub use form::{Form, read_form};
-pub use laws::{insertion_is_a_case, runs_keep_a_forest};
-pub use one_list::OneList;
-pub use roots::Roots;
-pub use state::State;
+pub use list_run::run_list;
+pub use list_taker::ListTaker;
+pub use sample::kdb;
 pub use volume::{makes_file, path_of};
 pub use words::{Command, read_command};

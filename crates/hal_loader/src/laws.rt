@@ -2,8 +2,7 @@
 ghost use Rattle.hal_loader.specs.Laws.{LoadingKeeps, TakingKeeps, UnloadedRowsAreSaid, UnloadedRowsComeBack, UnloadedRowsLoadAgain};
 
 use forest_laws::{insertion_keeps, paths_are_ancestries};
-use hal_schema::schemas_are_kept;
-use partition_select::root_order_is_total;
+use hal_schema::{root_order_is_total, schemas_are_kept};
 
 /// Taking a row that a taker may be asked to take keeps a forest.
 pub fn taking_keeps()

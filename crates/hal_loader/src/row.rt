@@ -16,11 +16,11 @@ ghost use Rattle.hal_loader.specs.declared.fault.RowFault.TheVariants as row;
 use crate::fault::RowFault;
 use crate::path::{Level, Path};
 use crate::said::{Said, row_said};
-use crate::twins::{key_of, level_refusal, parent_code};
+use crate::twins::level_refusal;
 use crate::{RowTaker, TakeFault};
 use csv::ByteRecord;
 use hal_base::{Ilk, Key};
-use hal_schema::{Schema, schemas_are_kept, select};
+use hal_schema::{Schema, key_in, parent_code, schemas_are_kept, select};
 use std::alloc::Global;
 
 impl From<TakeFault> for RowFault {
@@ -128,7 +128,7 @@ fn place_row<R: RowTaker>(
 {
     schemas_are_kept();
     let below = path.climb(parent_code(schema, said.code));
-    let key = Key::from_slice(alloc, key_of(schema, said.code, said.content.as_slice()))?;
+    let key = Key::from_slice(alloc, key_in(schema, said.code, said.content.as_slice()))?;
     let parent = path.name();
     if let Err(why) = judge(schema, said, parent, &key, &below, into) {
         return Err(why);

@@ -9,10 +9,9 @@ ghost use Rattle.hal_loader.specs.Saying.{SaysRecord};
 ghost use Rattle.hal_loader.specs.Text.{code_named, content_of, field_of, name_said, text_content, hex_content};
 
 use crate::fault::RowFault;
-use crate::twins::type_of;
 use csv::ByteRecord;
 use hal_base::{Bytes, Memory, Name8, are_printable};
-use hal_schema::{Schema, SegType};
+use hal_schema::{Schema, SegType, type_of};
 use std::alloc::Global;
 
 /// The type and the content of a row.

@@ -1,17 +1,14 @@
 // What the newest sibling tells of a row.
 ghost use Rattle.std.specs.Prelude.{◌≡◌, ◌==◌, ◌&&◌, not, None, is_none, is_some};
-ghost use Rattle.std.specs.Option.{option_copied};
 ghost use Rattle.hal_schema.specs.Forest.{has_unique_key};
-ghost use Rattle.hal_schema.specs.Row.{row_key};
-ghost use Rattle.hal_schema.specs.SegType.{parent_code, portion, type_of};
+ghost use Rattle.hal_schema.specs.SegType.{parent_code};
 ghost use Rattle.hal_loader.specs.Carrying.{is_above_key, has_same_key};
 ghost use Rattle.hal_loader.specs.Judging.{level_refusals};
-ghost use Rattle.hal_loader.specs.Placing.{coming};
 ghost use Rattle.hal_loader.specs.Refusals.{first_that_holds};
 
 use crate::path::{Level, has_same_key, is_above_key, is_of_later_type};
 use hal_base::{Ilk, Key};
-use hal_schema::{Schema, SegType};
+use hal_schema::{Schema, type_of};
 
 /// The first of the refusals that the newest sibling tells of.
 pub(crate) fn level_refusal(
@@ -84,47 +81,5 @@ fn has_unique_key(schema: &Schema, code: u8) -> bool
             None => false,
             Some(key) => key.unique,
         },
-    }
-}
-
-/// The type of a code, where there is one.
-pub(crate) fn type_of(schema: &Schema, code: u8) -> Option<&SegType>
-    ensures { option_copied result ≡ type_of schema.now.types code }
-{
-    if code == 0 {
-        return None;
-    }
-    schema.types.as_slice().get(code as usize - 1)
-}
-
-/// The bytes from a start that counts from 1, as far as the content has them.
-fn portion(content: &[u8], start: u16, bytes: u16) -> &[u8]
-    ensures { result.now ≡ portion start bytes content.now }
-{
-    let from = (start as usize).saturating_sub(1);
-    let to = from + bytes as usize;
-    &content[from.min(content.len())..to.min(content.len())]
-}
-
-/// The sequence field of a row of a type, empty where it has none.
-pub(crate) fn key_of<'a>(schema: &Schema, code: u8, content: &'a [u8]) -> &'a [u8]
-    ensures { result.now ≡ row_key schema.now.types (coming None code content.now) }
-{
-    match type_of(schema, code) {
-        None => &[],
-        Some(t) => match t.key {
-            None => &[],
-            Some(key) => portion(content, key.start, key.bytes),
-        },
-    }
-}
-
-/// The code of the parent type.
-pub(crate) fn parent_code(schema: &Schema, code: u8) -> Option<u8>
-    ensures { result ≡ parent_code schema.now.types code }
-{
-    match type_of(schema, code) {
-        Some(t) => t.parent,
-        None => None,
     }
 }

@@ -1,9 +1,8 @@
 // The first path: a script over one list.
 use crate::{SMOOTH, Trouble, called};
 use hal_base::{Bytes, List, Site, Source};
-use hal_desk::{OneList, run};
+use hal_desk::run;
 use hal_disk::{MemSite, SureSource};
-use script_runs::LineTaker;
 use std::test::Fail;
 
 const TWO_LINES: &[u8] = b"PCB S A\nS ISRT R : '001aa'\n";
@@ -18,55 +17,27 @@ fn scripts_have_their_replies(rt: HostRuntime) -> Result<(), Fail> {
         ),
         (
             "PCB S A\nS ISRT R : '001aa'\nS ISRT R : '001bb'\nS GU R(K='002')\nS GN\n",
-            "1 --\n2 -- R '001'\n3 II\n4 GE\n5 +B 9\n",
+            "1 --\n2 -- R '001'\n3 II\n4 GE\n5 GB\n",
         ),
         (
             "S GU R(K='001')\nPCB S A\nPCB S A",
             "1 +S 5\n2 --\n3 +S 2\n",
         ),
         ("", ""),
-        ("\n \n* note\r\nPCB S A\r\nPCB S A\r", "4 --\n5 +B 9\n"),
+        ("\n \n* note\r\nPCB S A\r\nPCB S A\r", "4 --\n5 +B 2\n"),
         (
             "PCB S A\nS ISRT R : '002  '\nS ISRT R : '001~~'\nS GU R(K='002')",
             "1 --\n2 -- R '002'\n3 -- R '001'\n4 -- R '002' '002  '\n",
         ),
         (
             "PCB\tS A\nPCB S A\0\nS ISRT R : '1'\n",
-            "1 +B 9\n2 +B 9\n3 +B 9\n",
+            "1 +B 2\n2 +B 2\n3 +S 5\n",
         ),
     ] {
         let outcome = called(alloc, script.as_bytes(), SMOOTH)?;
         assert_eq!(rt; outcome.status, 0, "{script}");
         assert_eq!(rt; outcome.said.as_slice(), said.as_bytes(), "{script}");
     }
-    Ok(())
-}
-
-#[test]
-fn a_list_tells_its_rows(rt: HostRuntime) -> Result<(), Fail> {
-    let alloc = rt.alloc();
-    let site = MemSite::new(alloc, Bytes::new(alloc), List::new(alloc));
-    let mut list = OneList::new(alloc, site);
-    for (number, line) in [
-        (1, "PCB S A"),
-        (2, "S ISRT R : '002bb'"),
-        (3, "S ISRT R : '001aa'"),
-        (4, "S ISRT R : '002cc'"),
-    ] {
-        assert_eq!(rt; list.line(None, number, line.as_bytes()), Ok(true));
-    }
-    let mut contents = Bytes::new(alloc);
-    match list.rows() {
-        Ok(rows) => {
-            for row in rows.as_slice() {
-                contents.append(row.content.as_slice())?;
-            }
-        }
-        Err(fault) => assert_eq!(rt; Err(fault), Ok(())),
-    }
-    assert_eq!(rt; contents.as_slice(), b"001aa002bb".as_slice());
-    assert_eq!(rt; list.states().map(|states| states.len()), Ok(0));
-    assert_eq!(rt; list.free_now(), 0);
     Ok(())
 }
 
@@ -80,7 +51,7 @@ fn a_line_of_any_length_has_its_reply(rt: HostRuntime) -> Result<(), Fail> {
     script.append(b"\nPCB S A\n")?;
     let outcome = called(alloc, script.as_slice(), SMOOTH)?;
     assert_eq!(rt; outcome.status, 0);
-    assert_eq!(rt; outcome.said.as_slice(), b"1 +B 9\n2 --\n".as_slice());
+    assert_eq!(rt; outcome.said.as_slice(), b"1 +B 1\n2 --\n".as_slice());
     Ok(())
 }
 

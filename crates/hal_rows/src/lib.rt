@@ -1,7 +1,8 @@
 //! Tests that join crates which don't stand on each other: whole commands over sources and sites in memory, and the
 //! rules of definitions.
 //!
-//! - `first_path`: a script over one list;
+//! - `first_path`: a script over one list, whose source and site may fail; `calls`: scripts of calls, with their replies;
+//! - `examples`: the examples of docs/CALLS.md;
 //! - `commands`: the table of commands, and `define`;
 //! - `definitions`, `schema`: definitions, sound and broken, and the rules that they break.
 #![tactic(auto)]
@@ -71,9 +72,13 @@ pub fn ran(
 }
 
 #[cfg(test)]
+mod calls;
+#[cfg(test)]
 mod commands;
 #[cfg(test)]
 mod definitions;
+#[cfg(test)]
+mod examples;
 #[cfg(test)]
 mod first_path;
 #[cfg(test)]

@@ -6,8 +6,7 @@ ghost use Rattle.hal_schema.specs.SegType.{path_key_bytes, type_of};
 
 use crate::definitions::*;
 use hal_base::Key;
-use hal_schema::{IndexDef, Schema, SegType, first_schema};
-use partition_select::select;
+use hal_schema::{IndexDef, Schema, SegType, first_schema, select};
 use std::alloc::Global;
 use std::test::Fail;
 

@@ -3,7 +3,8 @@ use Rattle.std.specs.Prelude.{◌≡◌, []}
 use Rattle.std.specs.List.{slice_get}
 use Rattle.hal_schema.specs.declared.raw.RawSchema.{RawSchema}
 use Rattle.hal_schema.specs.Raw.{types_of}
-use Rattle.hal_schema.specs.Rules.{unknown_parents, misplaced_roots, names_repeated, counts_passed, sizes_broken, sequence_broken, root_key_broken, letters_unknown, indexes_broken, highs_broken, factors_broken, numbers_broken}
+use Rattle.hal_schema.specs.Rules.{unknown_parents, misplaced_roots, names_repeated, counts_passed, sizes_broken, sequence_broken, root_key_broken}
+use Rattle.hal_schema.specs.Rules.{letters_unknown, indexes_broken, highs_broken, factors_broken, numbers_broken}
 
 -- rules 1 to 8
 pub record KeepsStatements (raw : RawSchema) : Type 0 where

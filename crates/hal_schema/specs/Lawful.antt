@@ -1,5 +1,6 @@
 -- What a checked definition keeps, as tests over its parts.
-use Rattle.std.specs.Prelude.{ℕ, ◌+◌, ◌==◌, nat_lt, nat_le, Bool, true, false, ◌&&◌, ◌||◌, not, List, [], ◌∷◌, ◌++◌, length, Option, None, Some, is_some, map, filter, option_and_then, if◌then◌else◌}
+use Rattle.std.specs.Prelude.{ℕ, ◌+◌, ◌==◌, nat_lt, nat_le, Bool, true, false, ◌&&◌, ◌||◌, not, List, [], ◌∷◌, ◌++◌, length, Option, None, Some}
+use Rattle.std.specs.Prelude.{is_some, map, filter, option_and_then, if◌then◌else◌}
 use Rattle.std.specs.List.{list_all, list_any, slice_get, enumerate_from}
 use Rattle.std.specs.Option.{option_map_or}
 use Rattle.std.specs.Ordering.{is_lt}
@@ -92,10 +93,13 @@ abbrev pub same_field : Field → Field → Bool
 same_field a b = bytes_eq a.name b.name && a.start == b.start && a.bytes == b.bytes
 
 -- the search fields are fields of the source, and the SUBSEQ portions lie in its concatenated key
+abbrev pub lie_in_source : ℕ → List Field → IndexDef → Bool
+lie_in_source path fields i =
+    list_all (λ f. not (is_key_portion f.name) && list_any (same_field f) fields) i.search
+    && list_all (λ f. is_key_portion f.name && list_any (same_field f) fields && is_within path f.start f.bytes) i.subseq
+
 abbrev pub fields_are_kept : List SegType → IndexDef → SegType → Bool
-fields_are_kept types i t =
-    list_all (λ f. not (is_key_portion f.name) && list_any (same_field f) t.fields) i.search
-    && list_all (λ f. is_key_portion f.name && list_any (same_field f) t.fields && is_within (path_key_bytes types i.source) f.start f.bytes) i.subseq
+fields_are_kept types i t = lie_in_source (path_key_bytes types i.source) t.fields i
 
 -- the source is the target or below it
 abbrev pub index_is_kept : List SegType → IndexDef → Bool

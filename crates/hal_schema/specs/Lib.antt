@@ -12,6 +12,7 @@ pub mod Named
 pub mod Paths
 pub mod Places
 pub mod Raw
+pub mod Reading
 pub mod Roots
 pub mod Row
 pub mod Rules

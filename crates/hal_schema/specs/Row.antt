@@ -1,10 +1,10 @@
 -- Rows of a forest: their names, parents and keys. A forest is one list of rows.
-use Rattle.std.specs.Prelude.{ℕ, ◌==◌, Bool, true, false, ◌&&◌, List, [], Option, None, Some, option_and_then, find, is_none}
+use Rattle.std.specs.Prelude.{ℕ, ◌==◌, Bool, true, false, ◌&&◌, List, Option, None, Some, find, is_none}
 use Rattle.std.specs.Option.{option_map_or}
 use Rattle.hal_base.specs.declared.place.Ilk.{Ilk}
 use Rattle.hal_schema.specs.declared.row.Row.{Row}
 use Rattle.hal_schema.specs.declared.schema.SegType.{SegType}
-use Rattle.hal_schema.specs.SegType.{type_of, level_of, portion}
+use Rattle.hal_schema.specs.SegType.{level_of, key_in}
 
 abbrev pub same_name : Ilk → Ilk → Bool
 same_name a b = a.addr == b.addr && a.part == b.part && a.number == b.number
@@ -34,4 +34,4 @@ row_level types row = level_of types row.code
 
 -- the sequence field, empty where the type has none
 abbrev pub row_key : List SegType → Row → List ℕ
-row_key types row = option_map_or (λ k. portion k.start k.bytes row.content) (option_and_then (λ t. t.key) (type_of types row.code)) []
+row_key types row = key_in types row.code row.content

@@ -38,6 +38,10 @@ is_child code t = option_map_or (λ parent. parent == code) t.parent false
 abbrev pub portion : ℕ → ℕ → List ℕ → List ℕ
 portion start bytes content = slice_range content (start - 1) (start - 1 + bytes)
 
+-- the sequence field in a content of a type, empty where the type has none
+abbrev pub key_in : List SegType → ℕ → List ℕ → List ℕ
+key_in types code content = option_map_or (λ k. portion k.start k.bytes content) (option_and_then (λ t. t.key) (type_of types code)) []
+
 -- how long the sequence field of a type is, 0 where it has none
 abbrev pub key_bytes : List SegType → ℕ → ℕ
 key_bytes types code = option_map_or (λ k. k.bytes) (option_and_then (λ t. t.key) (type_of types code)) 0

@@ -4,7 +4,8 @@ ghost use Rattle.hal_schema.specs.Faults.{IsFault, IsFaultAt};
 ghost use Rattle.hal_schema.specs.Keeps.{KeepsRest, KeepsStatements};
 ghost use Rattle.hal_schema.specs.Lawful.{parents_are_before};
 ghost use Rattle.hal_schema.specs.Raw.{types_of};
-ghost use Rattle.hal_schema.specs.Rules.{counts_passed, factors_broken, first_fault, highs_broken, indexes_broken, letters_unknown, misplaced_roots, names_repeated, numbers_broken, root_key_broken, sequence_broken, sizes_broken, unknown_parents};
+ghost use Rattle.hal_schema.specs.Rules.{counts_passed, factors_broken, first_fault, highs_broken, indexes_broken, letters_unknown, misplaced_roots};
+ghost use Rattle.hal_schema.specs.Rules.{names_repeated, numbers_broken, root_key_broken, sequence_broken, sizes_broken, unknown_parents};
 
 use crate::fault::judge;
 use crate::{RawSchema, SchemaFault, SegType, rules};

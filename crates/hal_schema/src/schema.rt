@@ -1,6 +1,9 @@
 ghost use Rattle.std.specs.Prelude.{IsTrue};
 ghost use Rattle.std.specs.List.{list_all};
-ghost use Rattle.hal_schema.specs.Lawful.{parents_are_before, type_names_differ, index_names_differ, part_names_differ, part_numbers_differ, field_names_differ, counts_are_kept, fields_fit, keys_are_fields, root_key_is_unique, letters_are_known, indexes_are_kept, highs_rise, part_is_kept, blocks_are_kept, names_are_kept, module_is_kept, part_is_stored};
+ghost use Rattle.hal_schema.specs.Lawful.{parents_are_before, type_names_differ, index_names_differ, part_names_differ, part_numbers_differ};
+ghost use Rattle.hal_schema.specs.Lawful.{field_names_differ, counts_are_kept, fields_fit, keys_are_fields, root_key_is_unique, letters_are_known};
+ghost use Rattle.hal_schema.specs.Lawful.{indexes_are_kept, highs_rise, part_is_kept, blocks_are_kept, names_are_kept, module_is_kept};
+ghost use Rattle.hal_schema.specs.Lawful.{part_is_stored};
 
 use hal_base::{Key, List, Name8};
 

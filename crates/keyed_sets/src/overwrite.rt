@@ -51,6 +51,7 @@ impl KeyedSet {
         ensures opened { StaysOpen self.old self.new (H.seen shelf.new) }
         ensures leaves { Writes self.old (H.steady shelf.old shelf.new) (IsErrOf result PageFault.Failed) (H.seen shelf.old) (H.seen shelf.new) }
         ensures fails { OnErr result (SameShelf (H.seen shelf.old) (H.seen shelf.new)) × (IsErrOf result PageFault.NoRoom → ⊥) }
+        ensures few { (H.seen shelf.new).fetches ≤ (H.seen shelf.old).fetches + 1 }
     {
         if !self.index.has_rows() {
             return Ok(false);

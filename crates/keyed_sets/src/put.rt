@@ -41,6 +41,7 @@ impl KeyedSet {
         ensures leaves { Writes self.old (H.steady shelf.old shelf.new) (IsErrOf result PageFault.Failed) (H.seen shelf.old) (H.seen shelf.new) }
         ensures unchanged { OnErr result (SameShelf (H.seen shelf.old) (H.seen shelf.new)) }
         ensures room { IsErrOf result PageFault.NoRoom → ⊥ }
+        ensures fetches { (H.seen shelf.new).fetches ≡ (H.seen shelf.old).fetches }
     {
         set_row(self.shape, page, spot.at, spot.found, key, body);
         self.index
@@ -63,6 +64,7 @@ impl KeyedSet {
         ensures opened { StaysOpen self.old self.new (H.seen shelf.new) }
         ensures leaves { Grows self.old (H.steady shelf.old shelf.new) (IsErrOf result PageFault.Failed) (H.seen shelf.old) (H.seen shelf.new) }
         ensures fails { IfErr result (PutFails self.old (key.now, body.now) (H.seen shelf.old) (H.seen shelf.new)) }
+        ensures few { (H.seen shelf.new).fetches ≤ (H.seen shelf.old).fetches + 1 }
     {
         self.index.make_page(shelf, self.set)?;
         let mut page = [0; BLOCK];
@@ -92,6 +94,7 @@ impl KeyedSet {
         ensures opened { StaysOpen self.old self.new (H.seen shelf.new) }
         ensures leaves { Grows self.old (H.steady shelf.old shelf.new) (IsErrOf result PageFault.Failed) (H.seen shelf.old) (H.seen shelf.new) }
         ensures fails { IfErr result (PutFails self.old (key.now, body.now) (H.seen shelf.old) (H.seen shelf.new)) }
+        ensures few { (H.seen shelf.new).fetches ≤ (H.seen shelf.old).fetches + 1 }
     {
         self.index.make_page(shelf, self.set)?;
         let mut second = [0; BLOCK];
@@ -120,6 +123,7 @@ impl KeyedSet {
         ensures opened { StaysOpen self.old self.new (H.seen shelf.new) }
         ensures leaves { Grows self.old (H.steady shelf.old shelf.new) (IsErrOf result PageFault.Failed) (H.seen shelf.old) (H.seen shelf.new) }
         ensures fails { IfErr result (PutFails self.old (key.now, body.now) (H.seen shelf.old) (H.seen shelf.new)) }
+        ensures few { (H.seen shelf.new).fetches ≤ (H.seen shelf.old).fetches + 1 }
     {
         if spot.found || has_room(self.shape, page) {
             return self.fit_row(shelf, spot, page, key, body);
@@ -145,6 +149,7 @@ impl KeyedSet {
         ensures opened { StaysOpen self.old self.new (H.seen shelf.new) }
         ensures leaves { Grows self.old (H.steady shelf.old shelf.new) (IsErrOf result PageFault.Failed) (H.seen shelf.old) (H.seen shelf.new) }
         ensures fails { IfErr result (PutFails self.old (key.now, body.now) (H.seen shelf.old) (H.seen shelf.new)) }
+        ensures few { (H.seen shelf.new).fetches ≤ (H.seen shelf.old).fetches + 2 }
     {
         if !self.index.has_rows() {
             return self.begin_page(shelf, key, body);
@@ -169,6 +174,7 @@ impl KeyedSet {
         ensures opened { StaysOpen self.old self.new (H.seen shelf.new) }
         ensures leaves { Grows self.old (H.steady shelf.old shelf.new) (IsErrOf result PageFault.Failed) (H.seen shelf.old) (H.seen shelf.new) }
         ensures fails { IfErr result (PutFails self.old (key.now, body.now) (H.seen shelf.old) (H.seen shelf.new)) }
+        ensures few { (H.seen shelf.new).fetches ≤ (H.seen shelf.old).fetches + 2 }
     {
         if !self.index.has_rows() {
             self.begin_page(shelf, key, body)?;

@@ -1,5 +1,5 @@
 // Taking a row away.
-ghost use Rattle.std.specs.Prelude.{◌≡◌, IfOk, OnErr, IsErrOf, IsTrue};
+ghost use Rattle.std.specs.Prelude.{◌≡◌, ◌+◌, ◌≤◌, IfOk, OnErr, IsErrOf, IsTrue};
 ghost use Rattle.hal_base.specs.ShelfCalls.{SameShelf};
 ghost use Rattle.keyed_sets.specs.Calls.{IsOpened, Removes, StaysOpen, Writes};
 
@@ -17,6 +17,7 @@ impl KeyedSet {
         ensures opened { StaysOpen self.old self.new (H.seen shelf.new) }
         ensures leaves { Writes self.old (H.steady shelf.old shelf.new) (IsErrOf result PageFault.Failed) (H.seen shelf.old) (H.seen shelf.new) }
         ensures fails { OnErr result (SameShelf (H.seen shelf.old) (H.seen shelf.new)) × (IsErrOf result PageFault.NoRoom → ⊥) }
+        ensures few { (H.seen shelf.new).fetches ≤ (H.seen shelf.old).fetches + 1 }
     {
         if !self.index.has_rows() {
             return Ok(false);

@@ -21,6 +21,7 @@ impl Index {
         ensures unchanged { OnErr result ((self.new.empty.items ≡ self.old.empty.items) × SameShelf (H.seen shelf.old) (H.seen shelf.new)) }
         ensures room { IsErrOf result PageFault.NoRoom → ((H.seen shelf.old).free ≡ []) × (self.old.empty.items ≡ []) }
         ensures keeps { Keeps (H.steady shelf.old shelf.new) (IsErrOf result PageFault.Failed) (H.seen shelf.old) (H.seen shelf.new) }
+        ensures fetches { (H.seen shelf.new).fetches ≡ (H.seen shelf.old).fetches }
     {
         if !self.empty.is_empty() {
             return Ok(());

@@ -75,6 +75,7 @@ impl Index {
         ensures unchanged { OnErr result ((self.new.firsts.items ≡ self.old.firsts.items) × (self.new.empty.items ≡ self.old.empty.items) × SameShelf (H.seen shelf.old) (H.seen shelf.new)) }
         ensures room { IsErrOf result PageFault.NoRoom → ⊥ }
         ensures leaves { OnlyChanges set (H.steady shelf.old shelf.new) (IsErrOf result PageFault.Failed) (H.seen shelf.old) (H.seen shelf.new) }
+        ensures fetches { (H.seen shelf.new).fetches ≡ (H.seen shelf.old).fetches }
     {
         let n = self.firsts[home].page;
         if count_in(page) == 0 {
@@ -108,6 +109,7 @@ impl Index {
         ensures unchanged { OnErr result ((self.new.firsts.items ≡ self.old.firsts.items) × (self.new.empty.items ≡ self.old.empty.items) × SameShelf (H.seen shelf.old) (H.seen shelf.new)) }
         ensures room { IsErrOf result PageFault.NoRoom → ⊥ }
         ensures leaves { OnlyChanges set (H.steady shelf.old shelf.new) (IsErrOf result PageFault.Failed) (H.seen shelf.old) (H.seen shelf.new) }
+        ensures fetches { (H.seen shelf.new).fetches ≡ (H.seen shelf.old).fetches }
     {
         let n = self.empty[0];
         let first = first_of(*self.firsts.allocator(), shape, n, page)?;
@@ -158,6 +160,7 @@ impl Index {
         ensures left { OnErr result (LeavesHalf set shape self.old self.new home page.now (H.seen shelf.old) (H.seen shelf.new)) }
         ensures room { IsErrOf result PageFault.NoRoom → ⊥ }
         ensures leaves { OnlyChanges set (H.steady shelf.old shelf.new) (IsErrOf result PageFault.Failed) (H.seen shelf.old) (H.seen shelf.new) }
+        ensures fetches { (H.seen shelf.new).fetches ≡ (H.seen shelf.old).fetches }
     {
         let (low, high) = self.make_halves(shape, home, page, second)?;
         shelf.stage_page(set, low.page, page)?;

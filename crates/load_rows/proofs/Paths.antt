@@ -10,13 +10,6 @@ use Rattle.hal_schema.specs.SegType.{parent_code, ancestry_within, level_of}
 use Rattle.hal_schema.specs.Row.{row_level}
 use Rattle.hal_schema.specs.Paths.{path_with}
 
--- a code that no type has stands alone
-pub unknown_level : (types : List SegType) (code : ℕ) → 0 < code → length types < code → level_of types code ≡ 1
-unknown_level types zero h k = absurd (omega arith)
-unknown_level types (suc place) h k =
-    ap (λ (o : Option SegType). length (suc place ∷ option_map_or (ancestry_within place (parent_code types)) (option_and_then (λ t. t.parent) o) []))
-    (slice_get_past types place (omega arith))
-
 filter_of_map : {X Y : Type 0} (f : X → Y) (p : Y → Bool) (xs : List X) → map f (filter (λ x. p (f x)) xs) ≡ filter p (map f xs)
 filter_of_map f p [] = refl
 filter_of_map f p (x ∷ xs) = by (p (f x)) (filter_of_map f p xs)

@@ -8,9 +8,8 @@ ghost use Rattle.hal_schema.specs.Paths.{concatenated_key};
 ghost use Rattle.hal_schema.specs.SegType.{portion};
 
 use crate::path::{append_keys, go_on, new_path};
-use crate::segment::portion;
 use hal_base::{Bytes, Key, Memory};
-use hal_schema::{Field, IndexDef, Row, Schema};
+use hal_schema::{Field, IndexDef, Row, Schema, portion};
 use std::alloc::Global;
 
 /// Whether no index has the key of an entry of a new row.

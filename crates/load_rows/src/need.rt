@@ -7,9 +7,8 @@ ghost use Rattle.hal_schema.specs.Insertion.{new_path};
 ghost use Rattle.hal_schema.specs.Row.{row_key};
 
 use crate::path::new_path;
-use crate::segment::key_of;
 use hal_base::Memory;
-use hal_schema::{PartDef, Row, Schema, schemas_are_kept, select};
+use hal_schema::{PartDef, Row, Schema, row_key, schemas_are_kept, select};
 use std::alloc::Global;
 
 pub(crate) fn load_need(
@@ -48,7 +47,7 @@ fn root_leaves_blocks(schema: &Schema, path: &[&Row]) -> bool
 {
     match path.first() {
         None => false,
-        Some(root) => leaves_blocks(schema, key_of(schema, root)),
+        Some(root) => leaves_blocks(schema, row_key(schema, root)),
     }
 }
 

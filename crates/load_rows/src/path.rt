@@ -5,9 +5,9 @@ ghost use Rattle.hal_schema.specs.Insertion.{new_path};
 ghost use Rattle.hal_schema.specs.Paths.{concatenated_key, path_with, paths_of};
 ghost use Rattle.hal_schema.specs.Row.{is_parent, row_level};
 
-use crate::segment::{is_parent, key_of, level_of};
+use crate::segment::is_parent;
 use hal_base::{Key, Memory};
-use hal_schema::{Row, Schema};
+use hal_schema::{Row, Schema, level_of, row_key};
 use std::alloc::Global;
 
 pub(crate) fn go_on<'a>(
@@ -74,7 +74,7 @@ pub(crate) fn append_keys(key: &mut Key, schema: &Schema, path: &[&Row]) -> Resu
     ensures { OnOk result (key.new ≡ key.old ++ concatenated_key schema.now.types (map (λ r. r.now) path.entry.now)) }
 {
     for row in path {
-        key.append(key_of(schema, row))?;
+        key.append(row_key(schema, row))?;
     }
     Ok(())
 }

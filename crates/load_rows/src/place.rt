@@ -7,9 +7,8 @@ ghost use Rattle.hal_schema.specs.Forest.{twin_cmp};
 ghost use Rattle.hal_schema.specs.Insertion.{is_lower_child, through_last};
 ghost use Rattle.hal_schema.specs.Row.{are_twins, row_level};
 
-use crate::segment::{are_twins, is_parent, is_same_parent, key_of, level_of};
-use hal_schema::{Row, Schema};
-use partition_select::root_cmp;
+use crate::segment::{are_twins, is_parent, is_same_parent};
+use hal_schema::{Row, Schema, level_of, root_cmp, row_key};
 
 pub(crate) fn load_place(schema: &Schema, rows: &[Row], new: &Row) -> usize
     ensures place { result ≡ load_place schema.now rows.now new.now }
@@ -77,7 +76,7 @@ fn is_below(schema: &Schema, row: &Row, new: &Row) -> bool
     ensures { result ≡ is_lt (twin_cmp schema.now row.now new.now) }
 {
     if row.code == 1 {
-        return root_cmp(schema, key_of(schema, row), key_of(schema, new)).is_lt();
+        return root_cmp(schema, row_key(schema, row), row_key(schema, new)).is_lt();
     }
-    key_of(schema, row).cmp(key_of(schema, new)).is_lt()
+    row_key(schema, row).cmp(row_key(schema, new)).is_lt()
 }

@@ -9,9 +9,9 @@ use Rattle.hal_base.specs.Name.{is_name, upper}
 use Rattle.hal_schema.specs.declared.raw.RawPart.{RawPart}
 use Rattle.hal_schema.specs.declared.raw.RawParts.{RawParts}
 use Rattle.hal_schema.specs.Named.{parts_are_named}
-use Rattle.dbd_reader.specs.declared.fault.TextFault.{TextFault}
-use Rattle.dbd_reader.specs.declared.fault.TextFault.TheVariants.{Rule, Memory}
-use Rattle.dbd_reader.specs.Definition.{Says}
+use Rattle.hal_schema.specs.declared.text_fault.TextFault.{TextFault}
+use Rattle.hal_schema.specs.declared.text_fault.TextFault.TheVariants.{Rule, Memory}
+use Rattle.hal_schema.specs.Reading.{Says}
 use Rattle.partition_reader.specs.Values.{needed, name_in, number_in, high_in, optional_number, number_or_zero}
 use Rattle.partition_reader.specs.Tables.{known, is_part_key, is_file_key, part_of, part_in, next_place, parts_from, tables_in, parts_of}
 use Rattle.partition_reader.specs.Partitions.{toml_of, parts_or, partitions_of}

@@ -6,9 +6,9 @@ use Rattle.toml.specs.declared.value.Value.{Value}
 use Rattle.toml.specs.View.{view, items_view}
 use Rattle.toml.specs.Data.{item}
 use Rattle.hal_schema.specs.declared.raw.RawPart.{RawPart}
-use Rattle.dbd_reader.specs.declared.fault.TextFault.{TextFault}
-use Rattle.dbd_reader.specs.declared.fault.TextFault.TheVariants as faults
-use Rattle.dbd_reader.specs.Definition.{Says}
+use Rattle.hal_schema.specs.declared.text_fault.TextFault.{TextFault}
+use Rattle.hal_schema.specs.declared.text_fault.TextFault.TheVariants as faults
+use Rattle.hal_schema.specs.Reading.{Says}
 use Rattle.partition_reader.specs.Tables.{next_place, part_in, parts_from}
 
 -- what was read before, and what is still read

@@ -4,7 +4,7 @@ use Rattle.std.proofs.lemmas.Str.{IsUtf8-from_is_utf8, is_utf8-from_IsUtf8}
 use Rattle.std.specs.Str.{is_utf8}
 use Rattle.toml.specs.Data.{Members}
 use Rattle.toml.specs.Parse.{parse_document}
-use Rattle.dbd_reader.specs.declared.fault.TextFault.TheVariants.{Rule}
+use Rattle.hal_schema.specs.declared.text_fault.TextFault.TheVariants.{Rule}
 use Rattle.partition_reader.specs.Tables.{parts_of}
 use Rattle.partition_reader.specs.Partitions.{toml_of, partitions_of}
 

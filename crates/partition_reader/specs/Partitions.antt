@@ -4,8 +4,8 @@ use Rattle.std.specs.Str.{is_utf8}
 use Rattle.toml.specs.Data.{Members}
 use Rattle.toml.specs.Parse.{parse_document}
 use Rattle.hal_schema.specs.declared.raw.RawParts.{RawParts}
-use Rattle.dbd_reader.specs.declared.fault.TextFault.{TextFault}
-use Rattle.dbd_reader.specs.declared.fault.TextFault.TheVariants.{Rule}
+use Rattle.hal_schema.specs.declared.text_fault.TextFault.{TextFault}
+use Rattle.hal_schema.specs.declared.text_fault.TextFault.TheVariants.{Rule}
 use Rattle.partition_reader.specs.Tables.{parts_of}
 
 -- the table that a text writes in TOML

@@ -7,8 +7,8 @@ use Rattle.toml.specs.Data.{Data, array, table, Items, no_items, item, Members, 
 use Rattle.toml.specs.Text.{are_tables}
 use Rattle.hal_schema.specs.declared.raw.RawPart.{RawPart}
 use Rattle.hal_schema.specs.declared.raw.RawParts.{RawParts}
-use Rattle.dbd_reader.specs.declared.fault.TextFault.{TextFault}
-use Rattle.dbd_reader.specs.declared.fault.TextFault.TheVariants.{Rule}
+use Rattle.hal_schema.specs.declared.text_fault.TextFault.{TextFault}
+use Rattle.hal_schema.specs.declared.text_fault.TextFault.TheVariants.{Rule}
 use Rattle.partition_reader.specs.Values.{needed, number_in, number_or_zero, optional_number, name_in, high_in}
 
 abbrev pub all_keys : (List ℕ → Bool) → Members → Bool

@@ -8,8 +8,8 @@ use Rattle.hex.specs.Hex.{decode_of}
 use Rattle.hex.specs.declared.error.FromHexError.{FromHexError}
 use Rattle.toml.specs.Data.{Data, string, integer, Members, get_member}
 use Rattle.hal_base.specs.Name.{is_name, upper}
-use Rattle.dbd_reader.specs.declared.fault.TextFault.{TextFault}
-use Rattle.dbd_reader.specs.declared.fault.TextFault.TheVariants.{Rule}
+use Rattle.hal_schema.specs.declared.text_fault.TextFault.{TextFault}
+use Rattle.hal_schema.specs.declared.text_fault.TextFault.TheVariants.{Rule}
 
 -- what was read, seen by view
 abbrev pub seen : {A B : Type 0} → (A → B) → Result A TextFault → Result B TextFault

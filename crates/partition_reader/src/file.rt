@@ -1,12 +1,11 @@
 // The whole file.
 ghost use Rattle.std.specs.Prelude.{IfOk, IsTrue};
 ghost use Rattle.hal_schema.specs.Named.{parts_are_named};
-ghost use Rattle.dbd_reader.specs.Definition.{Says};
+ghost use Rattle.hal_schema.specs.Reading.{Says};
 ghost use Rattle.partition_reader.specs.Partitions.{partitions_of};
 
 use crate::table::parts_of;
-use dbd_reader::TextFault;
-use hal_schema::RawParts;
+use hal_schema::{RawParts, TextFault};
 use std::alloc::Global;
 
 #[tactic(auto, unfolding(crate::specs::Partitions::partitions_of, crate::specs::Partitions::toml_of))]

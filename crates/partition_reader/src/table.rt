@@ -3,14 +3,13 @@ ghost use Rattle.std.specs.Prelude.{◌≡◌, option_map};
 ghost use Rattle.toml.specs.Data.{get_member};
 ghost use Rattle.toml.specs.Text.{are_tables};
 ghost use Rattle.toml.specs.View.{view, items_view, table_view};
-ghost use Rattle.dbd_reader.specs.Definition.{Says};
+ghost use Rattle.hal_schema.specs.Reading.{Says};
 ghost use Rattle.partition_reader.specs.Values.{seen, needed};
 ghost use Rattle.partition_reader.specs.Tables.{all_keys, known, is_part_key, part_of, next_place, part_in, parts_from, is_file_key, tables_in, parts_of};
 
 use crate::value::{high_in, name_in, number_in, number_or_zero, optional_number, unreadable};
-use dbd_reader::TextFault;
 use hal_base::List;
-use hal_schema::{RawPart, RawParts};
+use hal_schema::{RawPart, RawParts, TextFault};
 use std::alloc::Global;
 use toml::{Table, Value};
 

@@ -1,7 +1,6 @@
 use crate::read_partitions;
-use dbd_reader::TextFault;
 use hal_base::Bytes;
-use hal_schema::RawPart;
+use hal_schema::{RawPart, TextFault};
 use std::test::Fail;
 
 fn put(rt: &HostRuntime, out: &mut Bytes, text: &str, number: u32) -> Result<(), Fail> {

@@ -2,11 +2,11 @@
 ghost use Rattle.std.specs.Prelude.{◌≡◌, ◌<◌, ◌^◌, length, option_map, drop, Some, None};
 ghost use Rattle.std.specs.List.{list_all};
 ghost use Rattle.toml.specs.View.{view};
-ghost use Rattle.dbd_reader.specs.Definition.{Says};
+ghost use Rattle.hal_schema.specs.Reading.{Says};
 ghost use Rattle.partition_reader.specs.Values.{number_in, number_or_zero, optional_number, name_in, is_printable, begins_hex, before_quote, bytes_in, key_of, high_in};
 
-use dbd_reader::TextFault;
 use hal_base::{Bytes, Name8};
+use hal_schema::TextFault;
 use hex::FromHexError;
 use std::alloc::Global;
 use toml::Value;

@@ -13,9 +13,9 @@ use Rattle.hal_schema.specs.declared.schema.Schema.{Schema}
 use Rattle.hal_schema.specs.declared.schema.SegType.{SegType}
 use Rattle.hal_schema.specs.SegType.{type_of, level_of}
 use Rattle.hal_schema.specs.Row.{same_name, row_named, row_level, is_new_name}
-use Rattle.hal_schema.specs.Paths.{path_with, with_paths}
+use Rattle.hal_schema.specs.Paths.{path_with, paths_of, with_paths}
 use Rattle.hal_schema.specs.Span.{without_span}
-use Rattle.hal_schema.specs.Forest.{all_pairs, has_length, names_apart, rows_are_named, rows_are_below_parents, types_rise, twins_rise, keys_are_placed, is_forest}
+use Rattle.hal_schema.specs.Forest.{all_pairs, has_length, names_apart, rows_are_named, rows_are_below_parents, types_rise, twins_rise, keys_are_placed, is_forest, is_path}
 use Rattle.hal_schema.proofs.RowNames.{name_is, name_itself}
 use Rattle.position_state.specs.declared.session.Anchor.{Anchor}
 use Rattle.position_state.specs.declared.session.Anchor.TheVariants.{Front, At}
@@ -42,8 +42,18 @@ forest_names schema rows h =
     let d = and_parts named below c.0 in
     and_parts (all_pairs names_apart rows) (list_all (has_length schema.types) rows) d.0
 
+-- each path of a forest is one by parents
+pub forest_paths : (schema : Schema) (rows : List Row) → is_forest schema rows ≡ true → list_all (λ p. is_path schema.types None p.0) (paths_of schema.types rows) ≡ true
+forest_paths schema rows h =
+    let named : Bool = rows_are_named schema.types rows in
+    let below : Bool = rows_are_below_parents schema.types rows in
+    let a = and_parts (named && below && types_rise rows && twins_rise schema rows) (keys_are_placed schema rows) h in
+    let b = and_parts (named && below && types_rise rows) (twins_rise schema rows) a.0 in
+    let c = and_parts (named && below) (types_rise rows) b.0 in
+    (and_parts named below c.0).1
+
 -- a row of a type stands on some level
-level_of_row : (types : List SegType) (row : Row) → has_length types row ≡ true → 0 < row_level types row
+pub level_of_row : (types : List SegType) (row : Row) → has_length types row ≡ true → 0 < row_level types row
 level_of_row types row h = by row.code h
   where
     by : (code : ℕ) → option_map_or (λ (t : SegType). length row.content == t.bytes) (type_of types code) false ≡ true → 0 < level_of types code

@@ -1,4 +1,5 @@
 pub mod Apart
+pub mod Changing
 pub mod Climbing
 pub mod Cuts
 pub mod Deleting
@@ -6,6 +7,7 @@ pub mod KeepLaws
 pub mod Leaving
 pub mod Looking
 pub mod PlaceLaws
+pub mod Places
 pub mod Segments
 pub mod Shown
 pub mod Sorting

@@ -1,21 +1,11 @@
 -- Levels and paths of rows.
-use Rattle.std.proofs.Common.{◌≡◌, ℕ, zero, suc, ◌<◌, Bool, true, false, cond, List, [], ◌∷◌, ◌++◌, length, map, Bor, Option, refl, ap, ◌∙◌, arith}
-use Rattle.std.specs.Prelude.{nat_lt, filter, option_and_then}
-use Rattle.std.specs.Option.{option_map_or}
-use Rattle.std.proofs.lemmas.Option.{slice_get_past}
+use Rattle.std.proofs.Common.{◌≡◌, Bool, true, false, cond, List, [], ◌∷◌, ◌++◌, map, Bor, refl, ap, ◌∙◌}
+use Rattle.std.specs.Prelude.{nat_lt, filter}
 use Rattle.std.proofs.lemmas.List.{map-append}
 use Rattle.hal_schema.specs.declared.row.Row.{Row}
 use Rattle.hal_schema.specs.declared.schema.SegType.{SegType}
-use Rattle.hal_schema.specs.SegType.{parent_code, ancestry_within, level_of}
 use Rattle.hal_schema.specs.Row.{row_level}
 use Rattle.hal_schema.specs.Paths.{path_with}
-
--- a code that no type has stands alone
-pub unknown_level : (types : List SegType) (code : ℕ) → 0 < code → length types < code → level_of types code ≡ 1
-unknown_level types zero h k = absurd (omega arith)
-unknown_level types (suc place) h k =
-    ap (λ (o : Option SegType). length (suc place ∷ option_map_or (ancestry_within place (parent_code types)) (option_and_then (λ t. t.parent) o) []))
-    (slice_get_past types place (omega arith))
 
 filter_of_map : {X Y : Type 0} (f : X → Y) (p : Y → Bool) (xs : List X) → map f (filter (λ x. p (f x)) xs) ≡ filter p (map f xs)
 filter_of_map f p [] = refl

@@ -5,4 +5,6 @@ pub mod Keep
 pub mod KeepLaws
 pub mod Lawful
 pub mod Looks
+pub mod Names
+pub mod Places
 pub mod View

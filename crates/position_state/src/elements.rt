@@ -4,7 +4,7 @@ ghost use Rattle.std.specs.List.{last_or, after_first};
 ghost use Rattle.std.specs.Option.{option_copied};
 ghost use Rattle.hal_schema.specs.Row.{same_name};
 ghost use Rattle.position_state.specs.View.{same_entry, same_place, is_at, all_before, before, behind};
-ghost use Rattle.position_state.specs.Looks.{above, found_at, past, root_of_key, of_entry};
+ghost use Rattle.position_state.specs.Looks.{above, found_at, past, of_entry};
 
 use crate::{Anchor, Spot};
 use hal_base::{Ilk, Key, Memory};
@@ -149,17 +149,6 @@ fn first_up_to(view: &[Spot], level: u8) -> Option<&Spot>
 {
     for spot in view {
         if spot.level <= level {
-            return Some(spot);
-        }
-    }
-    None
-}
-
-pub(crate) fn root_of_key<'a>(view: &'a [Spot], key: &[u8]) -> Option<&'a Spot>
-    ensures { option_copied result ≡ root_of_key key.now view.now }
-{
-    for spot in view {
-        if spot.level == 1 && spot.key.as_slice() == key {
             return Some(spot);
         }
     }

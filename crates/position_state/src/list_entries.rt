@@ -11,9 +11,8 @@ ghost use Rattle.position_state.specs.Entries.{entry_seen};
 ghost use Rattle.position_state.specs.Looks.{taken_by};
 
 use crate::path::{append_keys, go_on, root_key};
-use crate::segment::portion;
 use hal_base::{Bytes, Ilk, Key, List, Memory};
-use hal_schema::{Field, IndexDef, Row, Schema};
+use hal_schema::{Field, IndexDef, Row, Schema, portion};
 use std::alloc::Global;
 
 /// An entry: its key, the name of its target, and the key of the root above.

@@ -1,67 +1,33 @@
-// The views of a list of rows in memory, made whole.
-ghost use Rattle.std.specs.Prelude.{◌≡◌, ◌≤◌, ◌++◌, length, map, take, drop, flat_map, OnOk, IfOk, None};
+// The views of a list of rows in memory by secondary indexes, made whole.
+ghost use Rattle.std.specs.Prelude.{◌≡◌, ◌≤◌, ◌++◌, length, map, take, drop, flat_map, OnOk, IfOk, Some};
 ghost use Rattle.std.specs.List.{prefix_len};
 ghost use Rattle.hal_schema.specs.SegType.{search_bytes};
 ghost use Rattle.hal_schema.specs.Entry.{entries_of};
 ghost use Rattle.hal_schema.specs.Span.{is_deeper, span_of};
-ghost use Rattle.position_state.specs.View.{entry_element, entry_view, plain_element, view_of};
+ghost use Rattle.position_state.specs.View.{entry_element, entry_view, view_of};
 ghost use Rattle.position_state.specs.Entries.{entry_seen};
 
 use crate::elements::is_same_name;
 use crate::list_entries::{IndexEntry, entries_of};
-use crate::path::{append_keys, go_on, root_key};
-use crate::segment::level_of;
+use crate::path::{append_keys, go_on};
 use crate::{Anchor, Spot};
 use hal_base::{Bytes, Ilk, Key, List, Memory};
-use hal_schema::{IndexDef, Row, Schema};
+use hal_schema::{IndexDef, Row, Schema, level_of};
 use std::alloc::Global;
 
-/// The elements of a view, in order: of the plain one, or of that by an index.
+/// The elements of the view by an index, in order.
 pub(crate) fn view_of(
     alloc: Global,
     schema: &Schema,
-    index: Option<u8>,
+    index: u8,
     rows: &[Row],
 ) -> Result<List<Spot>, Memory>
-    ensures { IfOk result (λ view. view ≡ view_of schema.now index rows.now) }
+    ensures { IfOk result (λ view. view ≡ view_of schema.now (Some index) rows.now) }
 {
-    match index {
-        None => plain_view(alloc, schema, rows),
-        Some(place) => match schema.indexes.as_slice().get(place as usize) {
-            None => Ok(List::new(alloc)),
-            Some(index) => index_view(alloc, schema, index, rows),
-        },
+    match schema.indexes.as_slice().get(index as usize) {
+        None => Ok(List::new(alloc)),
+        Some(index) => index_view(alloc, schema, index, rows),
     }
-}
-
-fn plain_view(alloc: Global, schema: &Schema, rows: &[Row]) -> Result<List<Spot>, Memory>
-    ensures { IfOk result (λ view. view ≡ view_of schema.now None rows.now) }
-{
-    let mut view = List::new(alloc);
-    let mut path = Vec::new(alloc);
-    for row in rows {
-        go_on(schema, &mut path, row)?;
-        view.push(plain_element(alloc, schema, &path, row)?)?;
-    }
-    Ok(view)
-}
-
-fn plain_element(alloc: Global, schema: &Schema, path: &[&Row], row: &Row) -> Result<Spot, Memory>
-    ensures { IfOk result (λ spot. spot ≡ plain_element schema.now.types (map (λ r. r.now) path.entry.now) row.now) }
-{
-    let mut key = Bytes::new(alloc);
-    append_keys(&mut key, schema, path)?;
-    Ok(Spot {
-        at: Anchor::At {
-            name: row.name,
-            root: root_key(alloc, schema, path)?,
-            entry: None,
-        },
-        code: row.code,
-        level: level_of(schema, row.code),
-        key,
-        content: row.content.copy()?,
-    })
 }
 
 fn index_view(
@@ -158,7 +124,7 @@ fn span_of<'a>(schema: &Schema, rows: &'a [Row], name: &Ilk) -> &'a [Row]
 }
 
 /// How many of the rows that follow a row are below it.
-fn count_below(schema: &Schema, above: &Row, rows: &[Row]) -> usize
+pub(crate) fn count_below(schema: &Schema, above: &Row, rows: &[Row]) -> usize
     ensures within { result ≤ length rows.now }
     ensures count { result ≡ prefix_len (is_deeper schema.now.types above.now) rows.now }
 {

@@ -2,27 +2,30 @@
 ghost use Rattle.std.specs.Prelude.{◌≡◌, ◌+◌, ◌-◌, ◌^◌, min, true, IfOk, IsTrue, Some};
 ghost use Rattle.std.proofs.Common.{refl};
 ghost use Rattle.hal_schema.specs.Forest.{is_forest};
+ghost use Rattle.position_state.specs.Names.{names_are_up_to};
 ghost use Rattle.position_state.specs.View.{view_of};
 
-use crate::elements::{
-    above, before, behind, copied, first_of_key, found_at, last, past, root_of_key,
-};
+use crate::elements::{above, before, behind, copied, first_of_key, found_at, last, past};
+use crate::list_change::highest_address;
 use crate::list_entries::taken_by;
 use crate::list_view::view_of;
+use crate::plain_view::PlainView;
 use crate::{Anchor, Spot, Walk, WalkFault};
 use hal_base::{Ilk, List, Live, Memory};
 use hal_schema::{Row, Schema};
 use std::alloc::Global;
 
-/// A list of rows in memory, seen as a database that never fails and has 65,536 free blocks. Each look goes through the
-/// whole list.
+/// A list of rows in memory, seen as a database that never fails and has 65,536 free blocks. A look at the plain
+/// view goes over the rows; one by an index makes its whole view anew.
 #[derive(Drop)]
 pub struct ListWalk<'a> {
     pub(crate) schema: &'a Schema,
     pub(crate) rows: List<Row>,
     pub(crate) looks: u64,
     pub(crate) alloc: Global,
+    pub(crate) named: u32,
     ghost kept: { IsTrue (is_forest schema.now rows) },
+    ghost named_below: { IsTrue (names_are_up_to named rows) },
 }
 
 impl<'a> ListWalk<'a> {
@@ -32,11 +35,13 @@ impl<'a> ListWalk<'a> {
         ensures rows { result.rows ≡ rows }
         ensures looks { result.looks ≡ 0 }
     {
+        let named = highest_address(rows.as_slice());
         ListWalk {
             schema,
             rows,
             looks: 0,
             alloc,
+            named,
         }
     }
 
@@ -56,8 +61,15 @@ impl<'a> ListWalk<'a> {
         self.looks = self.looks.saturating_add(1);
     }
 
-    fn view(&self, index: Option<u8>) -> Result<List<Spot>, Memory>
-        ensures { IfOk result (λ view. view ≡ view_of self.now.schema.now index self.now.rows) }
+    fn plain(&self) -> PlainView<'_>
+        ensures schema { result.schema.now ≡ self.now.schema.now }
+        ensures rows { result.rows.now ≡ self.now.rows }
+    {
+        PlainView::new(self.alloc, self.schema, self.rows.as_slice())
+    }
+
+    fn by_index(&self, index: u8) -> Result<List<Spot>, Memory>
+        ensures { IfOk result (λ view. view ≡ view_of self.now.schema.now (Some index) self.now.rows) }
     {
         view_of(self.alloc, self.schema, index, self.rows.as_slice())
     }
@@ -87,43 +99,67 @@ impl Walk for ListWalk<'_> {
 
     fn after(&mut self, index: Option<u8>, at: &Anchor) -> Result<Option<Spot>, WalkFault> {
         self.count();
-        let view = self.view(index)?;
-        Ok(copied(behind(view.as_slice(), at).first())?)
+        match index {
+            None => Ok(self.plain().after(at)?),
+            Some(index) => {
+                let view = self.by_index(index)?;
+                Ok(copied(behind(view.as_slice(), at).first())?)
+            }
+        }
     }
 
     fn before(&mut self, index: Option<u8>, at: &Anchor) -> Result<Option<Spot>, WalkFault> {
         self.count();
-        let view = self.view(index)?;
-        Ok(copied(last(before(view.as_slice(), at)))?)
+        match index {
+            None => Ok(self.plain().before(at)?),
+            Some(index) => {
+                let view = self.by_index(index)?;
+                Ok(copied(last(before(view.as_slice(), at)))?)
+            }
+        }
     }
 
     fn past(&mut self, index: Option<u8>, spot: &Spot) -> Result<Option<Spot>, WalkFault> {
         self.count();
-        let view = self.view(index)?;
-        Ok(copied(past(view.as_slice(), spot))?)
+        match index {
+            None => Ok(self.plain().past(spot)?),
+            Some(index) => {
+                let view = self.by_index(index)?;
+                Ok(copied(past(view.as_slice(), spot))?)
+            }
+        }
     }
 
     fn here(&mut self, index: Option<u8>, at: &Anchor) -> Result<Option<Spot>, WalkFault> {
         self.count();
-        let view = self.view(index)?;
-        Ok(copied(found_at(view.as_slice(), at))?)
+        match index {
+            None => Ok(self.plain().here(at)?),
+            Some(index) => {
+                let view = self.by_index(index)?;
+                Ok(copied(found_at(view.as_slice(), at))?)
+            }
+        }
     }
 
     fn at_root(&mut self, key: &[u8]) -> Result<Option<Spot>, WalkFault> {
         self.count();
-        let view = self.view(None)?;
-        Ok(copied(root_of_key(view.as_slice(), key))?)
+        Ok(self.plain().at_root(key)?)
     }
 
     fn above(&mut self, index: Option<u8>, spot: &Spot) -> Result<Option<Spot>, WalkFault> {
         self.count();
-        let view = self.view(index)?;
-        Ok(copied(above(view.as_slice(), spot))?)
+        match index {
+            None => Ok(self.plain().above(spot)?),
+            Some(index) => {
+                let view = self.by_index(index)?;
+                Ok(copied(above(view.as_slice(), spot))?)
+            }
+        }
     }
 
     fn at_entry(&mut self, index: u8, search: &[u8]) -> Result<Option<Spot>, WalkFault> {
         self.count();
-        let view = self.view(Some(index))?;
+        let view = self.by_index(index)?;
         Ok(copied(first_of_key(view.as_slice(), search))?)
     }
 

@@ -6,9 +6,8 @@ ghost use Rattle.hal_schema.specs.Paths.{concatenated_key, path_with};
 ghost use Rattle.hal_schema.specs.Row.{row_level};
 ghost use Rattle.position_state.specs.View.{root_key_of};
 
-use crate::segment::{key_of, level_of};
 use hal_base::{Bytes, Key, Memory};
-use hal_schema::{Row, Schema};
+use hal_schema::{Row, Schema, level_of, row_key};
 use std::alloc::Global;
 
 pub(crate) fn go_on<'a>(
@@ -29,7 +28,7 @@ pub(crate) fn root_key(alloc: Global, schema: &Schema, path: &[&Row]) -> Result<
 {
     match path.first() {
         None => Ok(Bytes::new(alloc)),
-        Some(root) => Bytes::from_slice(alloc, key_of(schema, root)),
+        Some(root) => Bytes::from_slice(alloc, row_key(schema, root)),
     }
 }
 
@@ -38,7 +37,7 @@ pub(crate) fn append_keys(key: &mut Key, schema: &Schema, path: &[&Row]) -> Resu
     ensures { OnOk result (key.new ≡ key.old ++ concatenated_key schema.now.types (map (λ r. r.now) path.entry.now)) }
 {
     for row in path {
-        key.append(key_of(schema, row))?;
+        key.append(row_key(schema, row))?;
     }
     Ok(())
 }

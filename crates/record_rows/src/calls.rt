@@ -2,10 +2,10 @@
 ghost use Rattle.std.specs.Prelude.{◌≡◌, ◌<◌, ◌≤◌, false, length};
 
 use crate::opened;
-use hal_base::{Bytes, PageFault};
+use hal_base::{Bytes, List, PageFault};
 use hal_schema::Schema;
 use memory_shelf::QuietShelf;
-use record_tree::Place;
+use record_tree::{HomedRow, Place};
 use std::alloc::Global;
 
 pub fn root(
@@ -118,4 +118,19 @@ pub fn retire(
         return Err(PageFault::Memory);
     };
     records.retire(shelf, at)
+}
+
+/// All rows of the side.
+pub fn walk(
+    alloc: Global,
+    shelf: &mut QuietShelf,
+    schema: &Schema,
+) -> Result<List<HomedRow>, PageFault>
+    requires some { 0 < length schema.now.parts }
+    requires phidam { schema.now.phdam ≡ false }
+{
+    let Ok(mut records) = opened(alloc, shelf, schema) else {
+        return Err(PageFault::Memory);
+    };
+    records.walk(shelf)
 }

@@ -1,11 +1,11 @@
 // What comes of rows that are added to an empty side. A cell of R takes 28 bytes, one of C 24, and one of G 20.
 ghost use Rattle.std.specs.Prelude.{◌≡◌, ◌<◌, ◌≤◌, false, length};
 
-use crate::{append, child, first_root, insert, load, root, twin};
+use crate::{Side, append, child, first_root, insert, load, root, twin, walk};
 use hal_base::{Bytes, Ilk, PageFault};
 use hal_schema::{Row, Schema};
 use memory_shelf::QuietShelf;
-use record_tree::Place;
+use record_tree::{HomedRow, Place};
 use std::alloc::Global;
 
 const AS_ROOT: Place = Place {
@@ -56,6 +56,36 @@ pub fn grows_levels(alloc: Global, shelf: &mut QuietShelf, schema: &Schema) -> b
         && root(alloc, shelf, schema, b"007") == Ok(Some(16))
 }
 
+/// Whether a row has this home, this code, and a parent of this home.
+fn is_at(row: &HomedRow, home: u32, code: u8, parent: Option<u32>) -> bool {
+    let above = match &row.row.parent {
+        Some(name) => Some(name.addr),
+        None => None,
+    };
+    row.home == home && row.row.code == code && above == parent
+}
+
+/// All six are walked in hierarchic sequence.
+pub fn walks_levels(alloc: Global, shelf: &mut QuietShelf, schema: &Schema) -> bool
+    requires some { 0 < length schema.now.parts }
+    requires phidam { schema.now.phdam ≡ false }
+{
+    let Ok(rows) = walk(alloc, shelf, schema) else {
+        return false;
+    };
+    match rows.as_slice() {
+        [first, second, a, b, below, c] => {
+            is_at(first, 136, 1, None)
+                && is_at(second, 16, 1, None)
+                && is_at(a, 68, 2, Some(16))
+                && is_at(b, 44, 2, Some(16))
+                && is_at(below, 116, 3, Some(44))
+                && is_at(c, 92, 2, Some(16))
+        }
+        _ => false,
+    }
+}
+
 /// Loads R and 300 C below it, and counts these by their twins.
 pub fn grows_twins(alloc: Global, shelf: &mut QuietShelf, schema: &Schema) -> Result<u32, PageFault>
     requires some { 0 < length schema.now.parts }
@@ -100,5 +130,5 @@ pub fn appends_a_row(alloc: Global, shelf: &mut QuietShelf, schema: &Schema) -> 
         parent: None,
         content,
     };
-    append(alloc, shelf, schema, behind(16, 7256), &row) == Ok(7280)
+    append(alloc, shelf, schema, Side::Input, behind(16, 7256), &row) == Ok(7280)
 }

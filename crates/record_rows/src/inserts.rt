@@ -1,13 +1,12 @@
 // New rows in the records of a side, which are opened for each.
 ghost use Rattle.std.specs.Prelude.{◌≡◌, ◌<◌, None, false, length, IsTrue};
-ghost use Rattle.hal_schema.specs.SegType.{portion};
 ghost use Rattle.record_walk.specs.Side.{key_of};
 ghost use Rattle.record_tree.specs.Finding.{BelongsTo};
 ghost use Rattle.record_tree.specs.Placing.{FitsType, unplaced};
 
-use crate::opened;
+use crate::{Side, opened, opened_at};
 use hal_base::{Bytes, PageFault};
-use hal_schema::{Row, Schema, select};
+use hal_schema::{Row, Schema, portion, select};
 use memory_shelf::QuietShelf;
 use record_tree::Place;
 use std::alloc::Global;
@@ -23,14 +22,6 @@ fn fits(schema: &Schema, code: u8, content: &[u8]) -> bool
         None => false,
         Some(t) => content.len() == usize::from(t.bytes),
     }
-}
-
-fn portion(content: &[u8], start: u16, bytes: u16) -> &[u8]
-    ensures { result.now ≡ portion start bytes content.now }
-{
-    let from = (start as usize).saturating_sub(1);
-    let to = from + bytes as usize;
-    &content[from.min(content.len())..to.min(content.len())]
 }
 
 fn root_key<'a>(schema: &Schema, content: &'a [u8]) -> &'a [u8]
@@ -118,6 +109,7 @@ pub fn append(
     alloc: Global,
     shelf: &mut QuietShelf,
     schema: &Schema,
+    side: Side,
     place: Place,
     row: &Row,
 ) -> Result<u32, PageFault>
@@ -129,7 +121,7 @@ pub fn append(
     {
         return Err(PageFault::Memory);
     }
-    let Ok(mut records) = opened(alloc, shelf, schema) else {
+    let Ok(mut records) = opened_at(alloc, shelf, schema, side) else {
         return Err(PageFault::Memory);
     };
     let at = records.append(shelf, place, row, 2, 10)?;

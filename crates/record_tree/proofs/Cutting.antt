@@ -17,7 +17,7 @@ use Rattle.free_space.specs.SideCalls.{Finds, IsTold, StaysOpenOn, Turns, cells_
 use Rattle.free_space.specs.SideLaws.{IsApart, NoneAtZero}
 use Rattle.record_walk.specs.Tree.{Occurrence, Twins, no_segment, segment, Chains, no_chain, chain, first_of, cell_of, Hangs, HangIn, here, times, times_in}
 use Rattle.record_walk.specs.Changes.{stands_in, set_in_cell, leads_to}
-use Rattle.record_walk.specs.Listing.{Placed, list_in}
+use Rattle.record_walk.specs.Listing.{Placed, list_of, list_in}
 use Rattle.record_walk.specs.Pointers.{Pointer, Behind, Below, Root, with_chain, at_home, in_home, behind_first, without_segment}
 use Rattle.record_walk.specs.Roots.{without_row, RowsComeAndGo}
 use Rattle.record_walk.specs.Side.{RootRow, alone, seen, IsWalked, IsSideOf}
@@ -33,17 +33,19 @@ use Rattle.record_tree.specs.declared.descent.Fate.TheVariants.{Hole, Marked}
 use Rattle.record_tree.specs.declared.place.Place.{Place}
 use Rattle.record_tree.specs.declared.records.Records.{Records}
 use Rattle.record_tree.specs.Changing.{ChangesSide}
-use Rattle.record_tree.specs.Cutting.{Cuts, CutsCells, LeadsTo, has_home, pointer_from}
-use Rattle.record_tree.specs.Descending.{CanHangAt, ChangesCells, EndsSpan, EndsSpanAt, HangsAt, Parts, PartsFrom, fate_of, rows_without}
+use Rattle.record_tree.specs.Cutting.{Cuts, CutsCells, LeadsTo, ReadsForSpan, has_home}
+use Rattle.record_tree.specs.Descending.{CanHangAt, ChangesCells, EndsSpan, EndsSpanAt, HangsAt, Parts, PartsFrom, ReadsSpanTwice, fate_of, rows_without, size, size_in}
 use Rattle.record_tree.specs.Sides.{part_number, root_set, root_shape, root_rows, letters_of, shapes_of}
 use Rattle.record_tree.specs.Standing.{IsOfSide, StandsForRecords, Walks, cells_seen, rows_seen}
 use Rattle.record_tree.specs.Finding.{first_child}
+use Rattle.record_tree.specs.Placing.{pointer_from}
 use Rattle.record_tree.proofs.CellFrames.{told_same, told_before, told_first, cells_as}
 use Rattle.record_tree.proofs.Descending.{seen_of, alone_copied, alone_children}
 use Rattle.record_tree.proofs.Downward.{holds_same}
 use Rattle.record_tree.proofs.Frames.{roots_apart}
 use Rattle.record_tree.proofs.Leading.{homes, records_of}
 use Rattle.record_tree.proofs.Seen.{some_is}
+use Rattle.record_tree.proofs.Sizes.{changed_length, length_span, sized}
 use Rattle.record_tree.proofs.Staying.{set_beside}
 
 -- ---- the segment in whose cell a pointer stands stays
@@ -104,6 +106,7 @@ pub record CutTree (schema : Schema) (cells : ℕ → Option Cell) (pointer : Po
   pub hang : HangIn cells below
   pub met : (home : ℕ) → times_in home trees ≡ (here home s + times_in home below) + times_in home (without_segment pointer trees)
   pub spanned : (home : ℕ) → count home (span_at schema.types (list_in None trees) at) ≡ here home s + times_in home below
+  pub many : length (span_at schema.types (list_in None trees) at) ≡ 1 + size_in below
 
 -- a span and the list without it have the rows of the list
 count_taken : (home n : ℕ) (list : List Placed) → count home (take n list) + count home (drop n list) ≡ count home list
@@ -149,6 +152,15 @@ cut_tree kept spans schema cells firsts trees r pointer within at leads some = b
               let all = counted_in h None trees in
               let kept = counted_in h None rest ∙ ap (count h) (spans schema cells firsts trees pointer r within (omega (arith, leads, some)) ∙ ap (without_span_at types (list_in None trees)) leads) in
               omega (arith, m, parts, all, kept);
+          many =
+              let parts = length_span types (list_in None trees) at in
+              let kept = ap (λ (l : List Placed). length l) (spans schema cells firsts trees pointer r within (omega (arith, leads, some)) ∙ ap (without_span_at types (list_in None trees)) leads) in
+              let was = ap (λ (l : List Placed). length l) x.was in
+              let is = ap (λ (l : List Placed). length l) x.is in
+              let both = changed_length x.front x.back (list_of x.parent x.twins) (list_of x.parent (behind_first x.twins)) in
+              let old = sized x.parent x.twins ∙ ap size e in
+              let now = sized x.parent (behind_first x.twins) ∙ ap (λ (u : Twins). size (behind_first u)) e in
+              omega (arith, parts, kept, was, is, both, old, now);
         }
           where
             home : s.home ≡ at
@@ -566,3 +578,19 @@ facts_of records parted cells place at fate cell old mid new law stands found pa
   row_places = leaves.places parted.roots.set;
   back = λ told. subst (λ (c : SideCells). IsSome (old.pages c.first)) parts.same_cells (told_back_side records old mid side parted.cells.first (told_first parted.cells mid new leaves parted.cells.first told));
 }
+
+-- ---- what it costs
+
+-- it met a fault before the way down
+pub cut_begun : (records : Records) (at : ℕ) (old new : ShelfView) → new.fetches ≤ old.fetches + 3 → ReadsForSpan records at old new
+cut_begun records at old new few trees walks = omega (arith, few)
+
+pub cut_few : SchemasAreKept → CutsAreSpans → (records now : Records) (shown : Pointer) (at : ℕ) (cell : Cell) (first old mid new : ShelfView) → SameShelf first old → StandsForRecords records old → (IsTold records.cells old → at ≢ 0) → PartsFrom records now shown at cell old mid
+    → Finds records.cells old at (Some cell) → old.fetches ≤ first.fetches + 1 → mid.fetches ≤ old.fetches + 2 → ReadsSpanTwice now.cells at mid new → ReadsForSpan records at first new
+cut_few kept spans records now shown at cell first old mid new same stands some parts found one two rest trees walks =
+    let walked = walks_same records first old same trees walks in
+    let p = passed_of kept spans records now shown at cell old mid stands (some walked.told) parts trees walked (found walked.told) in
+    let all = subst (λ (c : SideCells). ReadsSpanTwice c at mid new) parts.same_cells rest (parts.told walked.told) p.tree.below
+    (hangs_below records.schema (parts.parts trees walked).pointer at cell (cells_seen records old) (cells_seen records mid) (rows_seen records old) trees p) in
+    let many = p.tree.many in
+    omega (arith, one, two, all, many)

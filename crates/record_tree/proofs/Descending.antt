@@ -10,7 +10,7 @@ use Rattle.record_walk.specs.Side.{alone, seen}
 use Rattle.record_walk.proofs.Homes.{here_itself, at_or_off}
 use Rattle.record_walk.proofs.Hanging.{changes_outside_leave}
 use Rattle.record_tree.specs.Cutting.{no_cell, marked}
-use Rattle.record_tree.specs.Descending.{EndsCell, Meets, Pend, EndsTrees, HangsAt, EndsSpan}
+use Rattle.record_tree.specs.Descending.{EndsCell, Meets, Pend, EndsTrees, HangsAt, EndsSpan, size, size_in}
 use Rattle.record_tree.proofs.Seen.{some_is}
 
 -- ---- the fate of one cell
@@ -78,6 +78,11 @@ unfolding joined
 joined_met home no_chain others = omega arith
 joined_met home (chain twins more) others = let rest = joined_met home more others in omega (arith, rest)
 
+joined_size : (one others : Chains) → size_in (joined one others) ≡ size_in one + size_in others
+unfolding joined
+joined_size no_chain others = omega arith
+joined_size (chain twins more) others = let rest = joined_size more others in omega (arith, rest)
+
 -- the last pending address, and the twins to which it leads
 pub record Popped (cells : ℕ → Option Cell) (front : List ℕ) (at : ℕ) (trees : Chains) : Type 0 where
   pub before : Chains
@@ -87,6 +92,7 @@ pub record Popped (cells : ℕ → Option Cell) (front : List ℕ) (at : ℕ) (t
   pub hang : HangIn cells before
   pub hangs : Hangs cells twins
   pub met : (home : ℕ) → times_in home trees ≡ times_in home before + times home twins
+  pub many : size_in trees ≡ size_in before + size twins
 
 head_is : (x y : ℕ) (xs ys : List ℕ) → x ∷ xs ≡ y ∷ ys → (x ≡ y) × (xs ≡ ys)
 head_is x y xs ys e = (cc, cc)
@@ -105,6 +111,7 @@ popped cells [] at (chain twins no_chain) e h = record {
   hang = tt;
   hangs = h.0;
   met = λ home. omega arith;
+  many = omega arith;
 }
 popped cells [] at (chain twins (chain others more)) e h = absurd (no_more (first_of twins) (first_of others) (firsts_of more) at e)
 popped cells (x ∷ front) at (chain twins more) e h =
@@ -118,25 +125,28 @@ popped cells (x ∷ front) at (chain twins more) e h =
       hang = (h.0, rest.hang);
       hangs = rest.hangs;
       met = λ home. let m = rest.met home in omega (arith, m);
+      many = let m = rest.many in omega (arith, m);
     }
 
 -- ---- how far the descent has come
 
--- `rest` hangs from what is pending; the cells of `whole` that it doesn't meet have their fate
-pub record Progress (fate : Cell → Option Cell) (whole : Chains) (pending : List ℕ) (old now : ℕ → Option Cell) : Type 0 where
+-- `rest` hangs from what is pending; the cells of `whole` that it doesn't meet have their fate, and are so many
+pub record Progress (fate : Cell → Option Cell) (whole : Chains) (pending : List ℕ) (steps : ℕ) (old now : ℕ → Option Cell) : Type 0 where
   pub rest : Chains
+  pub many : steps + size_in rest ≡ size_in whole
   pub pend : Pend now pending rest
   pub fewer : (home : ℕ) → times_in home rest ≤ times_in home whole
   pub left : (home : ℕ) → 0 < times_in home rest → now home ≡ old home
   pub ended : (home : ℕ) → 0 < times_in home whole → times_in home rest ≡ 0 → now home ≡ option_and_then fate (old home)
   pub elsewhere : (home : ℕ) → times_in home whole ≡ 0 → now home ≡ old home
 
-abbrev pub Goes : (Cell → Option Cell) → List ℕ → List ℕ → (ℕ → Option Cell) → (ℕ → Option Cell) → Type 0
-Goes fate first pending old now = (whole : Chains) → Pend old first whole → Progress fate whole pending old now
+abbrev pub Goes : (Cell → Option Cell) → List ℕ → List ℕ → ℕ → (ℕ → Option Cell) → (ℕ → Option Cell) → Type 0
+Goes fate first pending steps old now = (whole : Chains) → Pend old first whole → Progress fate whole pending steps old now
 
-pub begun : (fate : Cell → Option Cell) (first : List ℕ) (cells : ℕ → Option Cell) → Goes fate first first cells cells
+pub begun : (fate : Cell → Option Cell) (first : List ℕ) (cells : ℕ → Option Cell) → Goes fate first first 0 cells cells
 begun fate first cells whole p = record {
   rest = whole;
+  many = omega arith;
   pend = p;
   fewer = λ home. omega arith;
   left = λ home m. refl;
@@ -145,18 +155,23 @@ begun fate first cells whole p = record {
 }
 
 -- an address that is none
-pub passed_none : (fate : Cell → Option Cell) (whole : Chains) (front : List ℕ) (old now : ℕ → Option Cell) → Progress fate whole (front ++ 0 ∷ []) old now → Progress fate whole front old now
-passed_none fate whole front old now p = by (popped (seen false now) front 0 p.rest p.pend.firsts p.pend.hang)
+pub passed_none : (fate : Cell → Option Cell) (whole : Chains) (front : List ℕ) (steps : ℕ) (old now : ℕ → Option Cell) → Progress fate whole (front ++ 0 ∷ []) steps old now → Progress fate whole front steps old now
+passed_none fate whole front steps old now p = by (popped (seen false now) front 0 p.rest p.pend.firsts p.pend.hang)
   where
     none_met : (home : ℕ) (twins : Twins) → first_of twins ≡ 0 → Hangs (seen false now) twins → times home twins ≡ 0
     none_met home no_segment e h = refl
     none_met home (segment s below next) e h = let some = h.0 in absurd (omega (arith, some, e))
 
-    by : Popped (seen false now) front 0 p.rest → Progress fate whole front old now
+    none_many : (twins : Twins) → first_of twins ≡ 0 → Hangs (seen false now) twins → size twins ≡ 0
+    none_many no_segment e h = refl
+    none_many (segment s below next) e h = let some = h.0 in absurd (omega (arith, some, e))
+
+    by : Popped (seen false now) front 0 p.rest → Progress fate whole front steps old now
     by x =
         let same : (home : ℕ) → times_in home p.rest ≡ times_in home x.before = λ home. let m = x.met home in let n = none_met home x.twins x.first x.hangs in omega (arith, m, n) in
         record {
           rest = x.before;
+          many = let m = p.many in let n = x.many in let k = none_many x.twins x.first x.hangs in omega (arith, m, n, k);
           pend = record { hang = x.hang; firsts = x.firsts; once = λ home. let s = same home in let o = p.pend.once home in omega (arith, s, o) };
           fewer = λ home. let s = same home in let f = p.fewer home in omega (arith, s, f);
           left = λ home m. p.left home (let s = same home in omega (arith, s, m));
@@ -177,14 +192,15 @@ pub record Next (now : ℕ → Option Cell) (front : List ℕ) (at : ℕ) (rest 
   pub firsts : firsts_of before ≡ front
   pub hang : HangIn (seen false now) (joined before (chain next below))
   pub met : (home : ℕ) → times_in home rest ≡ here home s + times_in home (joined before (chain next below))
+  pub many : size_in rest ≡ 1 + size_in (joined before (chain next below))
 
 pub next_of : (now : ℕ → Option Cell) (front : List ℕ) (at : ℕ) (rest : Chains) → at ≢ 0 → Pend now (front ++ at ∷ []) rest → Next now front at rest
 next_of now front at rest some p = by (popped (seen false now) front at rest p.firsts p.hang)
   where
     at_twins : (before : Chains) (twins : Twins) → firsts_of before ≡ front → first_of twins ≡ at → HangIn (seen false now) before → Hangs (seen false now) twins
-        → ((home : ℕ) → times_in home rest ≡ times_in home before + times home twins) → Next now front at rest
-    at_twins before no_segment firsts first hang hangs met = absurd (some (sym first))
-    at_twins before (segment s below next) firsts first hang hangs met =
+        → ((home : ℕ) → times_in home rest ≡ times_in home before + times home twins) → size_in rest ≡ size_in before + size twins → Next now front at rest
+    at_twins before no_segment firsts first hang hangs met many = absurd (some (sym first))
+    at_twins before (segment s below next) firsts first hang hangs met many =
         let x = seen_of now s.home (cell_of s below next) (hangs.1) in
         record {
           before = before;
@@ -198,20 +214,23 @@ next_of now front at rest some p = by (popped (seen false now) front at rest p.f
           firsts = firsts;
           hang = joined_hang (seen false now) before (chain next below) hang (hangs.3, hangs.2);
           met = λ home. let m = met home in let j = joined_met home before (chain next below) in omega (arith, m, j);
+          many = let j = joined_size before (chain next below) in omega (arith, many, j);
         }
 
     by : Popped (seen false now) front at rest → Next now front at rest
-    by x = at_twins x.before x.twins x.firsts x.first x.hang x.hangs x.met
+    by x = at_twins x.before x.twins x.firsts x.first x.hang x.hangs x.met x.many
 
 pub stands_uncopied : (now : ℕ → Option Cell) (front : List ℕ) (at : ℕ) (rest : Chains) (x : Next now front at rest) → x.cell.copied ≡ false
 stands_uncopied now front at rest x = sym (alone_copied x.cell) ∙ ap (λ (c : Cell). c.copied) x.sees
 
-pub passed_cell : (fate : Cell → Option Cell) (whole : Chains) (front later : List ℕ) (at : ℕ) (old now new : ℕ → Option Cell) → at ≢ 0 → Progress fate whole (front ++ at ∷ []) old now → Meets fate at front later now new → Progress fate whole later old new
-passed_cell fate whole front later at old now new some p meets = by (next_of now front at p.rest some p.pend)
+pub passed_cell : (fate : Cell → Option Cell) (whole : Chains) (front later : List ℕ) (at steps : ℕ) (old now new : ℕ → Option Cell) → at ≢ 0 → Progress fate whole (front ++ at ∷ []) steps old now → Meets fate at front later now new
+    → Progress fate whole later (steps + 1) old new
+passed_cell fate whole front later at steps old now new some p meets = by (next_of now front at p.rest some p.pend)
   where
-    by : Next now front at p.rest → Progress fate whole later old new
+    by : Next now front at p.rest → Progress fate whole later (steps + 1) old new
     by x = record {
       rest = rest;
+      many = let m = p.many in let n = x.many in omega (arith, m, n);
       pend = record {
         hang = changes_outside_leave (seen false now) (seen false new) rest x.hang (λ home m. ap (option_map alone) (stay home m));
         firsts = joined_firsts x.before (chain x.next x.below) ∙ ap (λ (l : List ℕ). l ++ first_of x.next ∷ firsts_of x.below) x.firsts ∙ sym (append_assoc front (first_of x.next ∷ []) (firsts_of x.below)) ∙ sym later_is;
@@ -267,8 +286,8 @@ passed_cell fate whole front later at old now new some p meets = by (next_of now
             meets.ends.elsewhere home away ∙ p.ended home m (omega (arith, n, off, none))
 
 -- nothing is pending
-pub finished : (fate : Cell → Option Cell) (whole : Chains) (old now : ℕ → Option Cell) → Progress fate whole [] old now → EndsTrees fate whole old now
-finished fate whole old now p = record { ended = λ home m. p.ended home m (none home p.rest p.pend.firsts); elsewhere = p.elsewhere }
+pub finished : (fate : Cell → Option Cell) (whole : Chains) (steps : ℕ) (old now : ℕ → Option Cell) → Progress fate whole [] steps old now → EndsTrees fate whole old now
+finished fate whole steps old now p = record { ended = λ home m. p.ended home m (none home p.rest p.pend.firsts); elsewhere = p.elsewhere }
   where
     none : (home : ℕ) (rest : Chains) → firsts_of rest ≡ [] → times_in home rest ≡ 0
     none home no_chain e = refl

@@ -1,5 +1,5 @@
 -- The way down a span, on the shelf.
-use Rattle.std.proofs.Common.{◌≡◌, ◌≢◌, ℕ, zero, suc, ◌-◌, ◌<◌, true, false, List, [], ◌∷◌, ◌++◌, Option, None, Some, refl, sym, ap, subst, ◌∙◌, arith}
+use Rattle.std.proofs.Common.{◌≡◌, ◌≢◌, ℕ, zero, suc, ◌+◌, ◌*◌, ◌-◌, ◌<◌, ◌≤◌, true, false, List, [], ◌∷◌, ◌++◌, Option, None, Some, refl, sym, ap, subst, ◌∙◌, arith}
 use Rattle.std.specs.Prelude.{IsSome, take}
 use Rattle.std.specs.Option.{option_to_list}
 use Rattle.std.proofs.lemmas.Bool.{false≢true}
@@ -11,7 +11,7 @@ use Rattle.free_space.specs.SideCalls.{StandsForSide, StaysOpenOn, Holds, IsTold
 use Rattle.record_walk.specs.Tree.{Chains}
 use Rattle.record_walk.specs.Side.{alone}
 use Rattle.record_tree.specs.declared.descent.Fate.{Fate}
-use Rattle.record_tree.specs.Descending.{CanHangAt, CanPend, ChangesCells, EndsAll, EndsCell, EndsSpanAt, HangsAt, Meets, Pend, fate_of}
+use Rattle.record_tree.specs.Descending.{CanHangAt, CanPend, ChangesCells, EndsAll, EndsCell, EndsSpanAt, HangsAt, Meets, Pend, ReadsSpanTwice, ReadsTwice, fate_of}
 use Rattle.record_tree.proofs.CellFrames.{told_same, told_before, told_first, cells_as, cells_then, cells_fail}
 use Rattle.record_tree.proofs.Descending.{Goes, Progress, begun, passed_none, passed_cell, next_of, stands_uncopied, finished, hangs_on, whole_span}
 use Rattle.record_tree.proofs.Seen.{some_is}
@@ -22,7 +22,9 @@ pub record Way (fate : Fate) (first pending : List ℕ) (cells now : SideCells) 
   pub live : new.live ≡ true
   pub stays : StaysOpenOn cells now new
   pub leaves : ChangesCells cells steady ⊥ old new
-  pub goes : Turns cells now old new (Goes (fate_of fate) first pending)
+  pub steps : ℕ
+  pub cost : new.fetches ≤ old.fetches + 2 * steps
+  pub goes : Turns cells now old new (Goes (fate_of fate) first pending steps)
 
 pub way_begun : (fate : Fate) (first : List ℕ) (cells : SideCells) (steady : Type 0) (old : ShelfView) → old.live ≡ true → StandsForSide cells old → steady → Way fate first first cells cells steady old old
 way_begun fate first cells steady old live stands is = record {
@@ -35,6 +37,8 @@ way_begun fate first cells steady old live stands is = record {
     untold = λ set none. none;
     free = refl;
   };
+  steps = 0;
+  cost = omega arith;
   goes = λ told. (told, begun (fate_of fate) first (cells_of cells old));
 }
 
@@ -43,9 +47,11 @@ way_none fate first front pending cells now steady old new is way = record {
   live = way.live;
   stays = way.stays;
   leaves = way.leaves;
+  steps = way.steps;
+  cost = way.cost;
   goes = λ told.
       let g = way.goes told in
-      (g.0, λ whole p. passed_none (fate_of fate) whole front (cells_of cells old) (cells_of now new) (subst (λ (l : List ℕ). Progress (fate_of fate) whole l (cells_of cells old) (cells_of now new)) is (g.1 whole p)));
+      (g.0, λ whole p. passed_none (fate_of fate) whole front way.steps (cells_of cells old) (cells_of now new) (subst (λ (l : List ℕ). Progress (fate_of fate) whole l way.steps (cells_of cells old) (cells_of now new)) is (g.1 whole p)));
 }
 
 -- what was told when the descent began
@@ -62,21 +68,42 @@ way_holds fate first front pending at cells now steady old new can is some way t
     (x.cell, x.is, stands_uncopied (cells_of now new) front at p.rest x)
 
 pub way_met : {s t f : Type 0} (fate : Fate) (first front pending later : List ℕ) (at : ℕ) (cells now then : SideCells) (steady : Type 0) (old new newer : ShelfView) (own : Fate) → own ≡ fate → pending ≡ front ++ at ∷ [] → at ≢ 0 → Way fate first pending cells now s old new
-    → StaysOpenOn now then newer → ChangesCells now t f new newer → (f → ⊥) → (s → t → steady) → Turns now then new newer (Meets (fate_of own) at front later) → Way fate first later cells then steady old newer
-way_met fate first front pending later at cells now then steady old new newer own same is some way stays leaves fine both meets = record {
+    → StaysOpenOn now then newer → ChangesCells now t f new newer → (f → ⊥) → (s → t → steady) → newer.fetches ≤ new.fetches + 2 → Turns now then new newer (Meets (fate_of own) at front later) → Way fate first later cells then steady old newer
+way_met fate first front pending later at cells now then steady old new newer own same is some way stays leaves fine both few meets = record {
   live = leaves.keeps.faults.alive fine;
   stays = record { first = stays.first ∙ way.stays.first; letters = stays.letters ∙ way.stays.letters; shapes = stays.shapes ∙ way.stays.shapes; stands = stays.stands };
   leaves = cells_fail cells (cells_then cells now way.stays.first way.leaves leaves both) fine (λ no. absurd no);
+  steps = way.steps + 1;
+  cost = let c = way.cost in omega (arith, c, few);
   goes = λ told.
       let g = way.goes told in
       let m = subst (λ (f : Fate). Turns now then new newer (Meets (fate_of f) at front later)) same meets g.0 in
-      (m.0, λ whole p. passed_cell (fate_of fate) whole front later at (cells_of cells old) (cells_of now new) (cells_of then newer) some (subst (λ (l : List ℕ). Progress (fate_of fate) whole l (cells_of cells old) (cells_of now new)) is (g.1 whole p)) m.1);
+      (m.0, λ whole p. passed_cell (fate_of fate) whole front later at way.steps (cells_of cells old) (cells_of now new) (cells_of then newer) some (subst (λ (l : List ℕ). Progress (fate_of fate) whole l way.steps (cells_of cells old) (cells_of now new)) is (g.1 whole p)) m.1);
 }
 
 pub way_done : (fate : Fate) (first pending : List ℕ) (cells now : SideCells) (steady : Type 0) (old new : ShelfView) → pending ≡ [] → Way fate first pending cells now steady old new → Turns cells now old new (EndsAll (fate_of fate) first)
 way_done fate first pending cells now steady old new is way told =
     let g = way.goes told in
-    (g.0, λ trees p. finished (fate_of fate) trees (cells_of cells old) (cells_of now new) (subst (λ (l : List ℕ). Progress (fate_of fate) trees l (cells_of cells old) (cells_of now new)) is (g.1 trees p)))
+    (g.0, λ trees p. finished (fate_of fate) trees way.steps (cells_of cells old) (cells_of now new) (subst (λ (l : List ℕ). Progress (fate_of fate) trees l way.steps (cells_of cells old) (cells_of now new)) is (g.1 trees p)))
+
+-- a page was read at most twice for each cell
+pub way_few : (fate : Fate) (first pending : List ℕ) (cells now : SideCells) (steady : Type 0) (old new : ShelfView) → Way fate first pending cells now steady old new → ReadsTwice cells first old new
+way_few fate first pending cells now steady old new way told trees p =
+    let g = (way.goes told).1 trees p in
+    let c = way.cost in
+    let m = g.many in
+    omega (arith, c, m)
+
+-- and where the next one met a fault
+pub way_few_more : (fate : Fate) (first front pending : List ℕ) (at : ℕ) (cells now : SideCells) (steady : Type 0) (old new newer : ShelfView) → pending ≡ front ++ at ∷ [] → at ≢ 0 → newer.fetches ≤ new.fetches + 2 → Way fate first pending cells now steady old new
+    → ReadsTwice cells first old newer
+way_few_more fate first front pending at cells now steady old new newer is some few way told trees p =
+    let g = (way.goes told).1 trees p in
+    let x = next_of (cells_of now new) front at g.rest some (subst (λ (l : List ℕ). Pend (cells_of now new) l g.rest) is g.pend) in
+    let c = way.cost in
+    let m = g.many in
+    let n = x.many in
+    omega (arith, c, few, m, n)
 
 pub stays_then : (cells now then : SideCells) (new newer : ShelfView) → StaysOpenOn cells now new → StaysOpenOn now then newer → StaysOpenOn cells then newer
 stays_then cells now then new newer first second = record { first = second.first ∙ first.first; letters = second.letters ∙ first.letters; shapes = second.shapes ∙ first.shapes; stands = second.stands }
@@ -141,3 +168,18 @@ meets_of fate cells now old mid new at cell pending later same found is turns to
 -- what is told now was told before
 pub told_from : {s f : Type 0} (cells now : SideCells) (old mid new : ShelfView) → SameShelf old mid → ChangesCells cells s f mid new → now.first ≡ cells.first → IsTold now new → IsTold cells old
 told_from cells now old mid new same changes first told = told_before cells old mid same (told_first cells mid new changes cells.first (subst (λ (s : SetId). IsSome (new.pages s)) first told))
+
+-- ---- what it costs
+
+-- the first cell, and then all below it
+pub span_few : (fate : Fate) (cells now : SideCells) (old mid new newer : ShelfView) (at : ℕ) (cell : Cell) (pending : List ℕ) → SameShelf old mid → Finds cells old at (Some cell) → pending ≡ cell.children → Turns cells now mid new (EndsCell (fate_of fate) at)
+    → mid.fetches ≤ old.fetches + 1 → new.fetches ≤ mid.fetches + 1 → ReadsTwice now pending new newer → ReadsSpanTwice cells at old newer
+span_few fate cells now old mid new newer at cell pending same found is first one two rest told below h =
+    let t = first (told_same cells old mid same told) in
+    let e = ends_first fate cells now old mid new at same t.1 in
+    let all = rest t.0 below (pend_as cells old (cells_of now new) at below cell pending h (found told) is (hangs_on (fate_of fate) at below (cells_of cells old) (cells_of now new) h e)) in
+    omega (arith, one, two, all)
+
+-- it met a fault before
+pub span_begun : (cells : SideCells) (at : ℕ) (old new : ShelfView) → new.fetches ≤ old.fetches + 2 → ReadsSpanTwice cells at old new
+span_begun cells at old new few told below h = omega (arith, few)

@@ -26,13 +26,15 @@ use Rattle.record_tree.specs.declared.new_row.NewRow.{NewRow}
 use Rattle.record_tree.specs.declared.place.Place.{Place}
 use Rattle.record_tree.specs.declared.records.Records.{Records}
 use Rattle.record_tree.specs.declared.room.Room.{Room}
+use Rattle.record_tree.specs.declared.room.Room.TheVariants.{Lowest, Past}
 use Rattle.record_tree.specs.Standing.{Walks, HoldsRow, cells_seen, rows_seen}
-use Rattle.record_tree.specs.Placing.{HasPointer, IsPlaceBelow, IsPlace, IsPlaceLast, FitsType, unplaced, pointer_at, led_to, name_of}
-use Rattle.record_tree.specs.Changing.{RowComes, RowComesLast, RowIsIn, Inserts, ComesLast, LoadsRow, IsAboveAll, at_home, home_name}
-use Rattle.record_tree.specs.Storing.{HasChildPlace, Joins, ComesAsRoot, ComesAt, HasPlace, pointer_home, joined_trees, segment_for}
+use Rattle.record_tree.specs.Placing.{HasPointer, IsPlaceBelow, IsPlace, IsPlaceLast, FitsType, unplaced, pointer_at, led_to, name_of, pointer_from}
+use Rattle.record_tree.specs.Changing.{RowComes, RowComesLast, RowIsIn, Inserts, ComesLast, LoadsRow, at_home, home_name}
+use Rattle.record_tree.specs.Storing.{HasChildPlace, Joins, ComesAsRoot, ComesAt, HasPlace, RowHasRoom, pointer_home, joined_trees, segment_for}
 use Rattle.record_tree.proofs.Seen.{some_is, seen_at}
 use Rattle.record_tree.proofs.Leading.{homes, records_of, read_of}
 use Rattle.record_tree.proofs.Joining.{is_met}
+use Rattle.record_tree.proofs.Rooms.{row_gets_room}
 
 -- ---- the parent's name
 
@@ -129,11 +131,11 @@ later_comes laws law records shelf above prior new at p place trees walks =
 -- ---- by the place
 
 pub inserted_row : Laws → FirstChildrenAreInserted → LaterChildrenAreInserted → (records now : Records) (place : Place) (new : NewRow) (at : ℕ) (old later : ShelfView) → IsPlace records old place (segment_for new) → ComesAt records now place new old later at
-    → RowIsIn records now at old later (λ list changed. RowComes records.schema (name_of list place.parent) (occurrence records new at) list changed)
+    → RowIsIn records now (pointer_from records.schema new.code place.parent place.prior) (occurrence records new at) old later (λ list changed. RowComes records.schema (name_of list place.parent) (occurrence records new at) list changed)
 inserted_row laws first following records now place new at old later is comes = by place.parent place.prior is.below comes.below comes.root
   where
     by : (parent prior : Option ℕ) → ((above : ℕ) → parent ≡ Some above → IsPlaceBelow records old above prior (segment_for new)) → ((above : ℕ) → parent ≡ Some above → Joins records now above prior new old later at)
-        → (parent ≡ None → ComesAsRoot records now new old later at) → RowIsIn records now at old later (λ list changed. RowComes records.schema (name_of list parent) (occurrence records new at) list changed)
+        → (parent ≡ None → ComesAsRoot records now new old later at) → RowIsIn records now (pointer_from records.schema new.code parent prior) (occurrence records new at) old later (λ list changed. RowComes records.schema (name_of list parent) (occurrence records new at) list changed)
     by None prior below joins root = root refl
     by (Some above) None below joins root =
         let j = joins above refl in
@@ -160,14 +162,14 @@ inserted_row laws first following records now place new at old later is comes = 
         }
 
 pub last_row : Laws → FirstChildrenAreInserted → NewTwinsStandBehindSpans → (records now : Records) (place : Place) (new : NewRow) (at : ℕ) (old later : ShelfView) → IsPlaceLast records old place (segment_for new) → ComesAt records now place new old later at
-    → RowIsIn records now at old later (RowComesLast records.schema place.parent place.prior (occurrence records new at))
+    → RowIsIn records now (pointer_from records.schema new.code place.parent place.prior) (occurrence records new at) old later (RowComesLast records.schema place.parent place.prior (occurrence records new at))
 last_row laws first spans records now place new at old later is comes = by place.parent place.prior is.below comes.below comes.root
   where
     nothing : (above : ℕ) → led_to records old above None new.code ≡ 0 → NextStaysBehind records.schema (Below above (child_place records.schema.types new.code)) (seen records.schema.phdam (cells_seen records old)) [] (segment_for new)
     nothing above none cell some there = absurd (omega (arith, none, some))
 
     by : (parent prior : Option ℕ) → ((above : ℕ) → parent ≡ Some above → HasPointer records old above prior new.code × (led_to records old above prior new.code ≡ 0)) → ((above : ℕ) → parent ≡ Some above → Joins records now above prior new old later at)
-        → (parent ≡ None → ComesAsRoot records now new old later at) → RowIsIn records now at old later (RowComesLast records.schema parent prior (occurrence records new at))
+        → (parent ≡ None → ComesAsRoot records now new old later at) → RowIsIn records now (pointer_from records.schema new.code parent prior) (occurrence records new at) old later (RowComesLast records.schema parent prior (occurrence records new at))
     by None None below joins root = root refl
     by None (Some prior) below joins root = root refl
     by (Some above) None below joins root =
@@ -220,25 +222,35 @@ named_home records now at name first is =
     let home : home_name now at ≡ home_name records at = λ i. record { addr = at; part = (first i).part; number = (first i).number } in
     is ∙ home
 
-pub inserts : Laws → FirstChildrenAreInserted → LaterChildrenAreInserted → (records now : Records) (place : Place) (code : ℕ) (room : Room) (content copied : List ℕ) (at : ℕ) (name : Ilk) (old later : ShelfView) → copied ≡ content → name ≡ home_name now at
-    → IsPlace records old place (unplaced code content) → ComesAt records now place (record { code = code; name = None; content = copied; room = room }) old later at → Inserts records now place (unplaced code content) old later name
-inserts laws first following records now place code room content copied at name old later same is place_is comes =
-    let new : NewRow = record { code = code; name = None; content = content; room = room } in
-    let row = inserted_row laws first following records now place new at old later place_is (subst (λ (l : List ℕ). ComesAt records now place (record { code = code; name = None; content = l; room = room }) old later at) same comes) in
-    subst (λ (n : Ilk). Inserts records now place (unplaced code content) old later n) (sym (named_home records now at name row.stays.first is)) (record { name_is = refl; row = row })
+pub inserts : Laws → FirstChildrenAreInserted → LaterChildrenAreInserted → (records now : Records) (place : Place) (code : ℕ) (content copied : List ℕ) (at : ℕ) (name : Ilk) (old later : ShelfView) → copied ≡ content → name ≡ home_name now at
+    → IsPlace records old place (unplaced code content) → ComesAt records now place (record { code = code; name = None; content = copied; room = Lowest }) old later at → RowHasRoom Lowest records (unplaced code copied) old later at
+    → Inserts records now place (unplaced code content) old later name
+inserts laws first following records now place code content copied at name old later same is place_is comes room =
+    let new : NewRow = record { code = code; name = None; content = content; room = Lowest } in
+    let row = inserted_row laws first following records now place new at old later place_is (subst (λ (l : List ℕ). ComesAt records now place (record { code = code; name = None; content = l; room = Lowest }) old later at) same comes) in
+    subst (λ (n : Ilk). Inserts records now place (unplaced code content) old later n) (sym (named_home records now at name row.stays.first is))
+    (record { name_is = refl; room = row_gets_room Lowest records code at content copied old later same room; row = row })
 
-pub comes_last : Laws → FirstChildrenAreInserted → NewTwinsStandBehindSpans → (records now : Records) (place : Place) (code : ℕ) (name : Option Ilk) (room : Room) (content copied : List ℕ) (at : ℕ) (old later : ShelfView) → copied ≡ content
-    → IsPlaceLast records old place (unplaced code content) → ComesAt records now place (record { code = code; name = name; content = copied; room = room }) old later at → IsAboveAll records old at
-    → ComesLast records now place name (unplaced code content) old later at
-comes_last laws first spans records now place code name room content copied at old later same place_is comes above = record {
-  above = above;
-  row = last_row laws first spans records now place (record { code = code; name = name; content = content; room = room }) at old later place_is
-      (subst (λ (l : List ℕ). ComesAt records now place (record { code = code; name = name; content = l; room = room }) old later at) same comes);
-}
+-- what is so of a row that came behind all others
+pub record CameLast (fbff fspf : ℕ) (records now : Records) (place : Place) (code : ℕ) (name : Option Ilk) (copied : List ℕ) (at : ℕ) (old later : ShelfView) : Type 0 where
+  pub comes : ComesAt records now place (record { code = code; name = name; content = copied; room = Past fbff fspf }) old later at
+  pub room : RowHasRoom (Past fbff fspf) records (unplaced code copied) old later at
 
-pub loads : (records now : Records) (place : Place) (code at : ℕ) (content : List ℕ) (name : Ilk) (old later : ShelfView) → name ≡ home_name now at → ComesLast records now place None (unplaced code content) old later at → LoadsRow records now place (unplaced code content) old later name
-loads records now place code at content name old later is comes =
-    subst (λ (n : Ilk). LoadsRow records now place (unplaced code content) old later n) (sym (named_home records now at name comes.row.stays.first is)) (record { name_is = refl; row = comes })
+pub comes_last : Laws → FirstChildrenAreInserted → NewTwinsStandBehindSpans → (fbff fspf : ℕ) (records now : Records) (place : Place) (code : ℕ) (name : Option Ilk) (content copied : List ℕ) (at : ℕ) (old later : ShelfView) → copied ≡ content
+    → IsPlaceLast records old place (unplaced code content) → CameLast fbff fspf records now place code name copied at old later → ComesLast fbff fspf records now place name (unplaced code content) old later at
+comes_last laws first spans fbff fspf records now place code name content copied at old later same place_is came =
+    let room = Past fbff fspf in
+    record {
+      above = came.room.room_is.past;
+      room = row_gets_room room records code at content copied old later same came.room;
+      row = last_row laws first spans records now place (record { code = code; name = name; content = content; room = room }) at old later place_is
+          (subst (λ (l : List ℕ). ComesAt records now place (record { code = code; name = name; content = l; room = room }) old later at) same came.comes);
+    }
+
+pub loads : (fbff fspf : ℕ) (records now : Records) (place : Place) (code at : ℕ) (content : List ℕ) (name : Ilk) (old later : ShelfView) → name ≡ home_name now at
+    → ComesLast fbff fspf records now place None (unplaced code content) old later at → LoadsRow fbff fspf records now place (unplaced code content) old later name
+loads fbff fspf records now place code at content name old later is comes =
+    subst (λ (n : Ilk). LoadsRow fbff fspf records now place (unplaced code content) old later n) (sym (named_home records now at name comes.row.stays.first is)) (record { name_is = refl; row = comes })
 
 -- where a dependent came, and a root
 pub at_dependent : (records now : Records) (place : Place) (above : ℕ) (new : NewRow) (old later : ShelfView) (at : ℕ) → place.parent ≡ Some above → Joins records now above place.prior new old later at → ComesAt records now place new old later at

@@ -1,8 +1,7 @@
 -- A stored cell to which the pointer was set.
-use Rattle.std.proofs.Common.{◌≡◌, ◌≢◌, ℕ, ◌-◌, ◌<◌, ◌≤◌, ◌==◌, Bool, true, false, List, [], length, take, Option, None, Some, refl, sym, ap, subst, ◌∙◌, arith}
+use Rattle.std.proofs.Common.{◌≡◌, ◌≢◌, ℕ, ◌-◌, ◌<◌, ◌≤◌, false, List, [], length, take, Option, None, Some, refl, sym, ap, subst, ◌∙◌, arith}
 use Rattle.std.specs.Prelude.{slice_index, count_by, IsSome}
 use Rattle.std.specs.Option.{option_map, option_map_or}
-use Rattle.std.proofs.lemmas.Bool.{eqb-true, eqb-false}
 use Rattle.hal_base.specs.declared.pages.SetId.{SetId}
 use Rattle.hal_base.specs.ShelfCalls.{ShelfView, SameShelf}
 use Rattle.hal_schema.specs.declared.schema.Schema.{Schema}
@@ -18,7 +17,7 @@ use Rattle.free_space.specs.SideCalls.{StandsForSide, IsTold, Holds, Turns}
 use Rattle.free_space.specs.SideLaws.{NoneAtZero}
 use Rattle.keyed_sets.specs.declared.set.KeyedSet.{KeyedSet}
 use Rattle.record_walk.specs.Tree.{Occurrence, Chains}
-use Rattle.record_walk.specs.Pointers.{Pointer, Behind, Below}
+use Rattle.record_walk.specs.Pointers.{Pointer}
 use Rattle.record_walk.specs.Changes.{stands_in, leads_to, set_in_cell, new_cell}
 use Rattle.record_walk.specs.Orders.{child_place, ChildPlaces}
 use Rattle.record_walk.specs.Records.{code_behind}
@@ -27,13 +26,11 @@ use Rattle.record_walk.specs.SideChanges.{ChangedSides, SetsPointer, leads_in, s
 use Rattle.record_walk.specs.Spans.{IsIn}
 use Rattle.record_tree.specs.declared.new_row.NewRow.{NewRow}
 use Rattle.record_tree.specs.declared.records.Records.{Records}
-use Rattle.record_tree.specs.declared.room.Room.{Room}
-use Rattle.record_tree.specs.declared.room.Room.TheVariants.{Lowest, Past}
 use Rattle.record_tree.specs.Sides.{part_number, root_set, root_shape, root_rows, letters_of, shapes_of}
 use Rattle.record_tree.specs.Standing.{IsOfSide, StandsForRecords, Walks, HoldsRow, cells_seen, rows_seen}
 use Rattle.record_tree.specs.Placing.{HasPointer, pointer_at}
-use Rattle.record_tree.specs.Changing.{CellComes, unlinked, at_home}
-use Rattle.record_tree.specs.Storing.{StoresCell, IsPast, ReadsPointer, HasChildPlace, Joins, pointer_home, joined_trees, segment_for, row_cell, named_cell}
+use Rattle.record_tree.specs.Changing.{CellComes, at_home}
+use Rattle.record_tree.specs.Storing.{StoresCell, ReadsPointer, HasChildPlace, Joins, pointer_home, joined_trees, segment_for, row_cell, named_cell}
 use Rattle.record_tree.proofs.Seen.{some_is}
 use Rattle.record_tree.proofs.Staying.{cells_same}
 use Rattle.record_tree.proofs.Leading.{homes, read_of, in_twin, child_in, child_leads, child_coded, twin_leads, twin_coded}
@@ -100,15 +97,10 @@ pub record IsDependents (pointer : Pointer) (home : ℕ) : Type 0 where
   pub stands : stands_in pointer ≡ Some home
   pub rows : (to : ℕ) (rows : List RootRow) → set_in_root_rows pointer to rows ≡ rows
   pub leads : (cells : ℕ → Option Cell) (firsts : List ℕ) → leads_to pointer cells [] ≡ leads_to pointer cells firsts
-  pub unlinks : (to : ℕ) (o : Option Cell) → option_map unlinked (option_map (set_in_cell pointer to) o) ≡ option_map unlinked o
-
-unlinks_of : (change : Cell → Cell) → ((cell : Cell) → unlinked (change cell) ≡ unlinked cell) → (o : Option Cell) → option_map unlinked (option_map change o) ≡ option_map unlinked o
-unlinks_of change same None = refl
-unlinks_of change same (Some cell) = ap (λ (c : Cell). Some c) (same cell)
 
 pub is_dependents : (schema : Schema) (above : ℕ) (prior : Option ℕ) (code : ℕ) → IsDependents (pointer_at schema above code prior) (pointer_home above prior)
-is_dependents schema above None code = record { stands = refl; rows = λ to rows. refl; leads = λ cells firsts. refl; unlinks = λ to. unlinks_of (set_in_cell (Below above (child_place schema.types code)) to) (λ cell. refl) }
-is_dependents schema above (Some at) code = record { stands = refl; rows = λ to rows. refl; leads = λ cells firsts. refl; unlinks = λ to. unlinks_of (set_in_cell (Behind at) to) (λ cell. refl) }
+is_dependents schema above None code = record { stands = refl; rows = λ to rows. refl; leads = λ cells firsts. refl }
+is_dependents schema above (Some at) code = record { stands = refl; rows = λ to rows. refl; leads = λ cells firsts. refl }
 
 -- and beside trees that hang
 pub record IsMet (records : Records) (shelf : ShelfView) (pointer : Pointer) (code : ℕ) (trees : Chains) : Type 0 where
@@ -156,20 +148,16 @@ adds_then_alters at home cell there change old mid now is adds alters =
       others = λ other a b. alters.elsewhere other b ∙ adds.elsewhere other a;
     }
 
-pub cell_comes : (at home : ℕ) (cell there : Cell) (change : Cell → Cell) (old now : ℕ → Option Cell) → old home ≡ Some there → there.copied ≡ false → ((o : Option Cell) → option_map unlinked (option_map change o) ≡ option_map unlinked o)
-    → AddsThenAlters at home cell change old now → CellComes at old now
-cell_comes at home cell there change old now is un same a = record {
+pub cell_comes : (schema : Schema) (pointer : Pointer) (home : ℕ) (new : Occurrence) (to : ℕ) (old now : ℕ → Option Cell) → stands_in pointer ≡ Some home → to ≡ leads_to pointer (seen schema.phdam old) []
+    → AddsThenAlters new.home home (new_cell new (kinds_of schema new) to) (set_in_cell pointer new.home) old now → CellComes schema pointer new old now
+cell_comes schema pointer home new to old now stands leads a = record {
   free = a.free;
-  copied = λ other c there_c copied. a.others other (λ e. let none : None ≡ Some c = sym a.free ∙ ap old (sym e) ∙ there_c in cc)
-      (λ e. let one : there ≡ c = some_is there c (sym is ∙ ap old (sym e) ∙ there_c) in let wrong : false ≡ true = sym un ∙ ap (λ (x : Cell). x.copied) one ∙ copied in cc) ∙ there_c;
-  others = λ other off. by other off (other == home) refl;
+  stands = a.stands ∙ ap (λ (n : ℕ). Some (new_cell new (kinds_of schema new) n)) leads;
+  others = record {
+    set = λ other e. subst (λ (n : ℕ). now n ≡ option_map (set_in_cell pointer new.home) (old n)) (some_is home other (sym stands ∙ e)) a.changed;
+    others = λ other off e. a.others other off (λ same. e (stands ∙ ap (λ (n : ℕ). Some n) (sym same)));
+  };
 }
-  where
-    by : (other : ℕ) → other ≢ at → (b : Bool) → (other == home) ≡ b → option_map unlinked (now other) ≡ option_map unlinked (old other)
-    by other off true e =
-        let one : other ≡ home = eqb-true other home e in
-        subst (λ (n : ℕ). option_map unlinked (now n) ≡ option_map unlinked (old n)) (sym one) (ap (option_map unlinked) a.changed ∙ same (old home))
-    by other off false e = ap (option_map unlinked) (a.others other off (eqb-false other home e))
 
 -- ---- the side
 
@@ -262,7 +250,7 @@ joins law zero kept places records mid above prior new to at a b c j = record {
   cells = λ told.
       let (there, is, (un, has)) = j.reads.place told in
       let d = is_dependents records.schema above prior new.code in
-      cell_comes at (pointer_home above prior) (named_cell records new to at) there (set_in_cell (pointer_at records.schema above new.code prior) at) (cells_seen records a) (cells_seen mid c) is un (d.unlinks at)
+      cell_comes records.schema (pointer_at records.schema above new.code prior) (pointer_home above prior) (at_home records new.name (segment_for new) at) to (cells_seen records a) (cells_seen mid c) d.stands (j.reads.is told)
       (altered records mid above prior new to at a b c j told there is);
 }
 
@@ -292,7 +280,7 @@ walks_same records old new same trees walks = record {
       (subst (λ (cells : ℕ → Option Cell). IsSideOf records.schema records.place cells (rows_seen records old) trees) (sym (cells_same records.cells.first records.cells.shapes old new same.pages)) walks.side);
 }
 
-told_same : (records : Records) (old new : ShelfView) → SameShelf old new → IsTold records.cells old → IsTold records.cells new
+pub told_same : (records : Records) (old new : ShelfView) → SameShelf old new → IsTold records.cells old → IsTold records.cells new
 told_same records old new same told = subst (λ (o : Option (List (List ℕ))). IsSome o) (sym (same.pages records.cells.first)) told
 
 pub holds_same : (records : Records) (old new : ShelfView) (at : ℕ) (P : Cell → Type 0) → SameShelf old new → HoldsRow records new at P → HoldsRow records old at P
@@ -324,9 +312,5 @@ joins_same records now above prior new at old one later same j = record {
   stays = j.stays;
   place = holds_same records old one (pointer_home above prior) (HasChildPlace records.schema prior new.code) same j.place;
   trees = λ trees walks. j.trees trees (walks_same records old one same trees walks);
-  cells = λ told. subst (λ (cells : ℕ → Option Cell). CellComes at cells (cells_seen now later)) (cells_same records.cells.first records.cells.shapes old one same.pages) (j.cells (told_same records old one same told));
+  cells = λ told. subst (λ (cells : ℕ → Option Cell). CellComes records.schema (pointer_at records.schema above new.code prior) (at_home records new.name (segment_for new) at) cells (cells_seen now later)) (cells_same records.cells.first records.cells.shapes old one same.pages) (j.cells (told_same records old one same told));
 }
-
-pub past_same : (room : Room) (records : Records) (old one : ShelfView) (at : ℕ) → SameShelf old one → IsPast room records one at → IsPast room records old at
-past_same Lowest records old one at same past = tt
-past_same (Past fbff fspf) records old one at same past = λ told other cell is. past (told_same records old one same told) other cell (ap (λ (cells : ℕ → Option Cell). cells other) (cells_same records.cells.first records.cells.shapes old one same.pages) ∙ is)

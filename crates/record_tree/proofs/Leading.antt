@@ -13,13 +13,13 @@ use Rattle.record_walk.specs.Tree.{Chains, times_in, child_codes}
 use Rattle.record_walk.specs.Listing.{list_in}
 use Rattle.record_walk.specs.Pointers.{Pointer, Behind, Below, Root}
 use Rattle.record_walk.specs.Changes.{leads_to}
-use Rattle.record_walk.specs.Leads.{PointersLeadOn, stand_so}
+use Rattle.record_walk.specs.Leads.{ChildrenAreFirst, PointersLeadOn, TwinsAreNext, pointed, stand_so, behind_span_at, first_home_of}
 use Rattle.record_walk.specs.Orders.{child_place, ChildPlaces}
 use Rattle.record_walk.specs.Records.{code_behind}
 use Rattle.record_walk.specs.Side.{RootRow, seen, IsWalked}
 use Rattle.record_walk.specs.Spans.{AreRecords, IsIn}
 use Rattle.record_tree.specs.declared.records.Records.{Records}
-use Rattle.record_tree.specs.Finding.{FindsChild, FindsTwin, pointed, first_child}
+use Rattle.record_tree.specs.Finding.{FindsChild, FindsTwins, FindsTwin, first_child}
 use Rattle.record_tree.specs.Standing.{StandsForRecords, Walks, HoldsRow, cells_seen, rows_seen}
 use Rattle.record_tree.proofs.Seen.{some_is, seen_at, cell_at}
 
@@ -128,9 +128,10 @@ child_coded places records shelf at code cell is up =
     let s = seen_at records.schema.phdam (cells_seen records shelf) at cell is in
     ap (option_and_then (λ (c : Cell). slice_get (child_codes types c.code) (child_place types code))) s.is ∙ ap (λ (n : ℕ). slice_get (child_codes types n) (child_place types code)) s.of.code ∙ places.place types cell.code code up
 
-pub child_found : ChildPlaces → PointersLeadOn → (records : Records) (shelf : ShelfView) → StandsForRecords records shelf → (at code : ℕ) (cell : Cell) → HoldsRow records shelf at (λ c. parent_code records.schema.types code ≡ Some c.code)
-    → (IsTold records.cells shelf → cells_seen records shelf at ≡ Some cell) → child_place records.schema.types code < length cell.children → (found : Option ℕ) → found ≡ pointed (first_child records.schema code cell) → FindsChild records shelf at code found
-child_found places law records shelf stands at code cell row fact lt found e = subst (λ (o : Option ℕ). FindsChild records shelf at code o) (sym e) (record {
+child_leads_on : ChildPlaces → PointersLeadOn → (records : Records) (shelf : ShelfView) → StandsForRecords records shelf → (at code : ℕ) (cell : Cell) → HoldsRow records shelf at (λ c. parent_code records.schema.types code ≡ Some c.code)
+    → (IsTold records.cells shelf → cells_seen records shelf at ≡ Some cell) → child_place records.schema.types code < length cell.children → (found : Option ℕ) → found ≡ pointed (first_child records.schema code cell)
+    → FindsTwins records shelf at (first_child records.schema code) (λ _. code) is_parent found
+child_leads_on places law records shelf stands at code cell row fact lt found e = subst (λ (o : Option ℕ). FindsTwins records shelf at (first_child records.schema code) (λ _. code) is_parent o) (sym e) (record {
   is = λ told other is. ap (λ (c : Cell). pointed (first_child records.schema code c)) (some_is cell other (sym (fact told) ∙ is));
   row = if_pointed (first_child records.schema code cell) (λ home. (other : Cell) → cells_seen records shelf at ≡ Some other → HoldsRow records shelf home (λ c. c.code ≡ code)) (λ some other is told.
       let read = read_of records shelf at (λ c. parent_code records.schema.types code ≡ Some c.code) cell row told (fact told) in
@@ -146,6 +147,18 @@ child_found places law records shelf stands at code cell row fact lt found e = s
       (records_of records.schema records.place (cells_seen records shelf) (rows_seen records shelf) trees walks.side.walked) (child_in records shelf trees walks at code cell read.stands read.uncopied lt) (subst (λ (n : ℕ). 0 < n) (sym leads) some)));
 })
 
+pub child_found : ChildPlaces → PointersLeadOn → ChildrenAreFirst → (records : Records) (shelf : ShelfView) → StandsForRecords records shelf → (at code : ℕ) (cell : Cell) → HoldsRow records shelf at (λ c. parent_code records.schema.types code ≡ Some c.code)
+    → (IsTold records.cells shelf → cells_seen records shelf at ≡ Some cell) → child_place records.schema.types code < length cell.children → (found : Option ℕ) → found ≡ pointed (first_child records.schema code cell) → FindsChild records shelf at code found
+child_found places law firsts records shelf stands at code cell row fact lt found e = record {
+  leads = child_leads_on places law records shelf stands at code cell row fact lt found e;
+  first = λ trees walks.
+      let read = read_of records shelf at (λ c. parent_code records.schema.types code ≡ Some c.code) cell row walks.told (fact walks.told) in
+      e ∙ ap pointed (sym (child_leads records shelf at code cell read.stands))
+      ∙ firsts records.schema (seen records.schema.phdam (cells_seen records shelf)) (homes (rows_seen records shelf)) trees at (child_place records.schema.types code) code
+      (records_of records.schema records.place (cells_seen records shelf) (rows_seen records shelf) trees walks.side.walked) (child_in records shelf trees walks at code cell read.stands read.uncopied lt)
+      (child_coded places records shelf at code cell read.stands read.holds);
+}
+
 pub twin_leads : (records : Records) (shelf : ShelfView) (at : ℕ) (cell : Cell) → cells_seen records shelf at ≡ Some cell → cell.code ≢ 1
     → leads_to (Behind at) (seen records.schema.phdam (cells_seen records shelf)) (homes (rows_seen records shelf)) ≡ cell.twin
 twin_leads records shelf at cell is off =
@@ -157,9 +170,9 @@ twin_coded records shelf at cell is =
     let s = seen_at records.schema.phdam (cells_seen records shelf) at cell is in
     ap (option_map (λ (c : Cell). c.code)) s.is ∙ ap (λ (n : ℕ). Some n) s.of.code
 
-pub twin_found : PointersLeadOn → (records : Records) (shelf : ShelfView) → StandsForRecords records shelf → (at : ℕ) (cell : Cell) → HoldsRow records shelf at (λ c. c.code ≢ 1)
-    → (IsTold records.cells shelf → cells_seen records shelf at ≡ Some cell) → (found : Option ℕ) → found ≡ pointed cell.twin → FindsTwin records shelf at found
-twin_found law records shelf stands at cell row fact found e = subst (λ (o : Option ℕ). FindsTwin records shelf at o) (sym e) (record {
+twin_leads_on : PointersLeadOn → (records : Records) (shelf : ShelfView) → StandsForRecords records shelf → (at : ℕ) (cell : Cell) → HoldsRow records shelf at (λ c. c.code ≢ 1)
+    → (IsTold records.cells shelf → cells_seen records shelf at ≡ Some cell) → (found : Option ℕ) → found ≡ pointed cell.twin → FindsTwins records shelf at (λ c. c.twin) (λ c. c.code) are_twins found
+twin_leads_on law records shelf stands at cell row fact found e = subst (λ (o : Option ℕ). FindsTwins records shelf at (λ c. c.twin) (λ c. c.code) are_twins o) (sym e) (record {
   is = λ told other is. ap (λ (c : Cell). pointed c.twin) (some_is cell other (sym (fact told) ∙ is));
   row = if_pointed cell.twin (λ home. (other : Cell) → cells_seen records shelf at ≡ Some other → HoldsRow records shelf home (λ c. c.code ≡ other.code)) (λ some other is told.
       let read = read_of records shelf at (λ c. c.code ≢ 1) cell row told (fact told) in
@@ -174,3 +187,18 @@ twin_found law records shelf stands at cell row fact found e = subst (λ (o : Op
       (law.twin records.schema (seen records.schema.phdam (cells_seen records shelf)) (homes (rows_seen records shelf)) trees at
       (records_of records.schema records.place (cells_seen records shelf) (rows_seen records shelf) trees walks.side.walked) (walks.side.walked.all_met at cell read.stands read.uncopied) (subst (λ (n : ℕ). 0 < n) (sym leads) some)));
 })
+
+pub twin_found : PointersLeadOn → TwinsAreNext → (records : Records) (shelf : ShelfView) → StandsForRecords records shelf → (at : ℕ) (cell : Cell) → HoldsRow records shelf at (λ c. c.code ≢ 1)
+    → (IsTold records.cells shelf → cells_seen records shelf at ≡ Some cell) → (found : Option ℕ) → found ≡ pointed cell.twin → FindsTwin records shelf at found
+twin_found law nexts records shelf stands at cell row fact found e = record {
+  leads = twin_leads_on law records shelf stands at cell row fact found e;
+  next = λ other is trees walks.
+      let same : cell ≡ other = some_is cell other (sym (fact walks.told) ∙ is) in
+      let read = read_of records shelf at (λ c. c.code ≢ 1) cell row walks.told (fact walks.told) in
+      let s = seen_at records.schema.phdam (cells_seen records shelf) at cell read.stands in
+      let off : s.other.code ≢ 1 = λ one. read.holds (sym s.of.code ∙ one) in
+      let r = records_of records.schema records.place (cells_seen records shelf) (rows_seen records shelf) trees walks.side.walked in
+      e ∙ ap pointed (sym (s.of.twin read.holds))
+      ∙ nexts records.schema (seen records.schema.phdam (cells_seen records shelf)) (homes (rows_seen records shelf)) trees at s.other r (walks.side.walked.all_met at cell read.stands read.uncopied) s.is off
+      ∙ ap (λ (n : ℕ). first_home_of n (behind_span_at records.schema.types (list_in None trees) at)) (s.of.code ∙ ap (λ (c : Cell). c.code) same);
+}

@@ -1,13 +1,16 @@
 pub mod Staying
 pub mod Seen
 pub mod Leading
+pub mod Reading
 pub mod RootRows
+pub mod RootHomes
 pub mod Types
 pub mod Opening
 pub mod Frames
 pub mod Replacing
 pub mod Storing
 pub mod Joining
+pub mod Rooms
 pub mod Rooting
 pub mod Rooted
 pub mod RootPut
@@ -15,5 +18,7 @@ pub mod Inserting
 pub mod CellFrames
 pub mod Descending
 pub mod Passing
+pub mod Sizes
 pub mod Cutting
 pub mod Downward
+pub mod Walking

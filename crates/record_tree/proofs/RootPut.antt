@@ -9,6 +9,7 @@ use Rattle.hal_schema.specs.declared.schema.Schema.{Schema}
 use Rattle.hal_schema.specs.declared.schema.SegType.{SegType}
 use Rattle.hal_schema.specs.Facts.{SchemasAreKept}
 use Rattle.hal_schema.specs.SegType.{type_of, key_bytes, portion}
+use Rattle.free_space.specs.Side.{lettered}
 use Rattle.free_space.specs.SideCalls.{IsTold, StandsForSide}
 use Rattle.free_space.specs.SideLaws.{OthersLeaveASide, StaysBeside}
 use Rattle.std.specs.Int.{w32, to_be_bytes}
@@ -36,6 +37,7 @@ pub record RootsGrow (mid : Records) (s f : Type 0) (b c : ShelfView) : Type 0 w
   pub changes : ChangesSide 1 mid s f b c
   pub beside : StaysBeside mid.cells b c
   pub back : IsTold mid.cells c → IsTold mid.cells b
+  pub places : (place : ℕ) → place < 10 → c.places (lettered mid.cells.first place) ≡ b.places (lettered mid.cells.first place)
 
 roots_grown : {s f : Type 0} (count : ℕ) → OthersLeaveASide → (mid : Records) (b c : ShelfView) → Alike b → Alike c → mid.roots.set ≡ root_set mid.cells.first → StandsForSide mid.cells b → count ≤ 1 → OnlyGrows count mid.roots.set s f b c → RootsGrow mid s f b c
 roots_grown count law mid b c before after set stands few leaves = record {
@@ -51,6 +53,7 @@ roots_grown count law mid b c before after set stands few leaves = record {
   };
   beside = law.grown mid.cells count mid.roots.set b c stands (λ place below e. roots_apart mid.cells.first place stands.first below (e ∙ set)) leaves.grown;
   back = λ told. told_back b c mid.roots.set before after leaves.grown.untold mid.cells.first told;
+  places = λ place below. leaves.grown.other_places (lettered mid.cells.first place) (λ e. roots_apart mid.cells.first place stands.first below (e ∙ set));
 }
 
 pub roots_grow : {s f : Type 0} → OthersLeaveASide → (mid : Records) (b c : ShelfView) → Alike b → Alike c → mid.roots.set ≡ root_set mid.cells.first → StandsForSide mid.cells b → Grows mid.roots s f b c → RootsGrow mid s f b c

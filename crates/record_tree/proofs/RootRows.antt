@@ -164,7 +164,7 @@ above_is schema place key law kind belongs (row ∷ rows) all =
 
 -- ---- what was read
 
-if_at : {X : Type 0} (o : Option X) (x : X) (P : X → Type 0) → o ≡ Some x → IfSome o P → P x
+pub if_at : {X : Type 0} (o : Option X) (x : X) (P : X → Type 0) → o ≡ Some x → IfSome o P → P x
 if_at {X} o x P is holds = subst (λ (p : Option X). IfSome p P) is holds
 
 pub body_found : (key : List ℕ) (told : Option (List (List ℕ))) (shape : RowShape) (body : Option (List ℕ)) → IfSome told (λ pages. body ≡ lookup key (rows_of shape pages)) → (pages : List (List ℕ)) → told ≡ Some pages

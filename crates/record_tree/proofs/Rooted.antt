@@ -33,7 +33,7 @@ use Rattle.record_tree.specs.Sides.{root_row, root_rows}
 use Rattle.record_tree.specs.Standing.{StandsForRecords, Walks, cells_seen, rows_seen}
 use Rattle.record_tree.specs.Finding.{is_key}
 use Rattle.record_tree.specs.Placing.{IsNewRoot}
-use Rattle.record_tree.specs.Changing.{RowComes, at_home, unlinked}
+use Rattle.record_tree.specs.Changing.{RowComes, at_home}
 use Rattle.record_tree.specs.Storing.{StoresCell, ComesAsRoot, segment_for, row_cell, named_cell}
 use Rattle.record_tree.proofs.Seen.{some_is}
 use Rattle.record_tree.proofs.Leading.{homes, records_of}
@@ -208,8 +208,11 @@ comes_as_root law first listed zero by_key by_rows come records mid now new at a
       let now_at = cells_now records mid now new at a b c r in
       record {
         free = adds.free;
-        copied = λ other cell is copied. now_at other ∙ adds.elsewhere other (λ e. let none : None ≡ Some cell = sym adds.free ∙ ap (cells_seen records a) (sym e) ∙ is in cc) ∙ is;
-        others = λ other away. ap (option_map unlinked) (now_at other ∙ adds.elsewhere other away);
+        stands = now_at at ∙ adds.stands;
+        others = record {
+          set = λ other e. absurd (let none : None ≡ Some other = e in cc);
+          others = λ other away e. now_at other ∙ adds.elsewhere other away;
+        };
       };
 }
   where

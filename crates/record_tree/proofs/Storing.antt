@@ -104,20 +104,20 @@ takes_cell records shelf cell stands takes =
     let place : ℕ = place_of records.cells.letters cell.code in
     subst (λ (x : SetId). shelf.takes (lettered x place) 1 ≡ true) (sym stands.of.first) (takes.letters place (place_below records.cells.letters cell.code stands.cells.letters))
 
-pub grows_cell : {s f : Type 0} (most : ℕ) (records : Records) (old new : ShelfView) (cell : Cell) → Alike old → Alike new → are_letters records.cells.letters ≡ true → GrowsFor records.cells cell s f old new
+pub grows_cell : {more reads : ℕ} {s f : Type 0} (most : ℕ) (records : Records) (old new : ShelfView) (cell : Cell) → Alike old → Alike new → are_letters records.cells.letters ≡ true → GrowsFor more reads records.cells cell s f old new
     → added_for records.cells cell old new ≤ most → ChangesSide most records s f old new
 grows_cell most records old new cell before after letters leaves few =
     let set_is : SetId = set_of records.cells cell in
     let below = place_below records.cells.letters cell.code letters in
     record {
-      keeps = leaves.keeps;
-      pages = λ set apart. leaves.grown.others set (λ e. apart.letters (place_of records.cells.letters cell.code) below (sym e));
-      places = λ set apart. leaves.grown.other_places set (λ e. apart.letters (place_of records.cells.letters cell.code) below (sym e));
-      untold = λ set none. after set_is set (leaves.grown.untold (before set set_is none));
+      keeps = leaves.changes.keeps;
+      pages = λ set apart. leaves.changes.grown.others set (λ e. apart.letters (place_of records.cells.letters cell.code) below (sym e));
+      places = λ set apart. leaves.changes.grown.other_places set (λ e. apart.letters (place_of records.cells.letters cell.code) below (sym e));
+      untold = λ set none. after set_is set (leaves.changes.grown.untold (before set set_is none));
       count = added_for records.cells cell old new;
       few = few;
-      enough = leaves.grown.enough;
-      free = leaves.grown.free;
+      enough = leaves.changes.grown.enough;
+      free = leaves.changes.grown.free;
     }
 
 opened_few : (fbff count : ℕ) → opened_pages fbff count ≤ (if fbff == 0 then 1 else 2)
@@ -132,23 +132,23 @@ opened_few fbff count = by (fbff == 0) ((count + 1) % fbff == 0)
 pub past_few : (fbff fspf count many : ℕ) → many ≤ opened_pages fbff count → many ≤ room_need (Past fbff fspf)
 past_few fbff fspf count many le = let few = opened_few fbff count in omega (arith, le, few)
 
-pub stores_cell : {s f : Type 0} (records : Records) (cells : SideCells) (cell : Cell) (at : ℕ) (old new : ShelfView) → Alike old → Alike new → StandsForRecords records old → GrowsFor records.cells cell s f old new
+pub stores_cell : {more reads : ℕ} {s f : Type 0} (records : Records) (cells : SideCells) (cell : Cell) (at : ℕ) (old new : ShelfView) → Alike old → Alike new → StandsForRecords records old → GrowsFor more reads records.cells cell s f old new
     → StaysOpenOn records.cells cells new → Turns records.cells cells old new (Adds at cell) → StoresCell records (record records { cells = cells }) cell old new at
 stores_cell records cells cell at old new before after stands leaves stays turns =
     let below = place_below records.cells.letters cell.code stands.cells.letters in
     let apart : records.roots.set ≡ set_of records.cells cell → ⊥ = λ e.
     roots_apart records.cells.first (place_of records.cells.letters cell.code) stands.cells.first below (sym e ∙ stands.of.roots ∙ ap root_set (sym stands.of.first)) in
-    let pages : new.pages records.roots.set ≡ old.pages records.roots.set = leaves.grown.others records.roots.set apart in
+    let pages : new.pages records.roots.set ≡ old.pages records.roots.set = leaves.changes.grown.others records.roots.set apart in
     record {
       schema = refl;
       place = refl;
       first = refl;
       roots = refl;
       cells = stays;
-      opened = set_beside records.roots old new stands.roots pages (leaves.grown.other_places records.roots.set apart);
+      opened = set_beside records.roots old new stands.roots pages (leaves.changes.grown.other_places records.roots.set apart);
       rows = ap (root_rows records.roots.shape) pages;
       adds = turns;
-      back = λ told. told_back old new (set_of records.cells cell) before after leaves.grown.untold records.cells.first (subst (λ (x : SetId). IsSome (new.pages x)) stays.first told);
+      back = λ told. told_back old new (set_of records.cells cell) before after leaves.changes.grown.untold records.cells.first (subst (λ (x : SetId). IsSome (new.pages x)) stays.first told);
     }
 
 -- ---- a stored cell that is changed

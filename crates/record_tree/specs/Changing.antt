@@ -1,6 +1,5 @@
 -- What calls make of a side, and what they leave.
 use Rattle.std.specs.Prelude.{◌≡◌, ◌≢◌, ℕ, ◌+◌, ◌≤◌, ◌<◌, ◌==◌, true, if◌then◌else◌, List, [], drop, length, Option, None, Some, unwrap_or}
-use Rattle.std.specs.Option.{option_map}
 use Rattle.hal_base.specs.declared.pages.SetId.{SetId}
 use Rattle.hal_base.specs.declared.place.Ilk.{Ilk}
 use Rattle.hal_base.specs.ShelfCalls.{ShelfView, Keeps}
@@ -8,18 +7,23 @@ use Rattle.hal_schema.specs.declared.schema.Schema.{Schema}
 use Rattle.hal_schema.specs.Forest.{all_pairs, names_apart, twins_rise}
 use Rattle.hal_schema.specs.Insertion.{inserted}
 use Rattle.segment_blocks.specs.declared.tile.Cell.{Cell}
+use Rattle.segment_blocks.specs.declared.tile.Tile.{Tile}
 use Rattle.free_space.specs.Map.{Alters}
-use Rattle.free_space.specs.Side.{lettered, place_at}
-use Rattle.free_space.specs.SideCalls.{IsTold}
+use Rattle.free_space.specs.Placing.{Places, Appends}
+use Rattle.free_space.specs.Side.{lettered, place_at, place_of}
+use Rattle.free_space.specs.SideCalls.{IsTold, IsSaidOf, added_for, set_of}
 use Rattle.free_space.specs.SideLaws.{IsApart}
 use Rattle.record_walk.specs.Tree.{Occurrence, Chains}
 use Rattle.record_walk.specs.Listing.{Placed, placed, list_in, rows_of}
 use Rattle.record_walk.specs.Spans.{ComesIn, ComesBehind, replaced_at}
-use Rattle.record_walk.specs.Changes.{set_content}
+use Rattle.record_walk.specs.Changes.{leads_to, new_cell, set_content}
+use Rattle.record_walk.specs.Pointers.{Pointer}
+use Rattle.record_walk.specs.Side.{seen}
+use Rattle.record_walk.specs.SideChanges.{SetsPointer, kinds_of}
 use Rattle.record_tree.specs.declared.place.Place.{Place}
 use Rattle.record_tree.specs.declared.records.Records.{Records}
 use Rattle.record_tree.specs.Standing.{cells_seen, StaysRecords, Walks}
-use Rattle.record_tree.specs.Placing.{name_of}
+use Rattle.record_tree.specs.Placing.{name_of, pointer_from}
 
 -- ---- what is left alone
 
@@ -46,15 +50,12 @@ pub record TakesSide (records : Records) (shelf : ShelfView) : Type 0 where
 
 -- ---- a new row
 
--- a cell without its pointers
-abbrev pub unlinked : Cell → Cell
-unlinked cell = record cell { twin = 0; children = [] }
-
--- A cell came to an address at which none stood. Of the others pointers may have changed, and nothing of those that are copied.
-pub record CellComes (at : ℕ) (old new : ℕ → Option Cell) : Type 0 where
-  pub free : old at ≡ None
-  pub copied : (other : ℕ) (cell : Cell) → old other ≡ Some cell → cell.copied ≡ true → new other ≡ Some cell
-  pub others : (other : ℕ) → other ≢ at → option_map unlinked (new other) ≡ option_map unlinked (old other)
+-- The cell of a new segment came to an address at which none stood. This pointer leads to it, and it leads on as the pointer did; and each other
+-- cell is as it was.
+pub record CellComes (schema : Schema) (pointer : Pointer) (new : Occurrence) (old now : ℕ → Option Cell) : Type 0 where
+  pub free : old new.home ≡ None
+  pub stands : now new.home ≡ Some (new_cell new (kinds_of schema new) (leads_to pointer (seen schema.phdam old) []))
+  pub others : SetsPointer pointer new.home old now (λ other. other ≢ new.home)
 
 -- One row more with its home, and every other row keeps its own. Where names differ and twins stand in order, it was inserted at its place.
 pub record RowComes (schema : Schema) (parent : Option Ilk) (new : Occurrence) (old now : List Placed) : Type 0 where
@@ -82,30 +83,53 @@ pub record ListBecomes (records : Records) (shelf : ShelfView) (old : Chains) (L
   pub walks : Walks records shelf trees
   pub leads : Leads (list_in None old) (list_in None trees)
 
--- a row came to a home, and the list leads on so
-pub record RowIsIn (before now : Records) (at : ℕ) (old later : ShelfView) (Leads : List Placed → List Placed → Type 0) : Type 0 where
+-- a row came, to which this pointer leads, and the list leads on so
+pub record RowIsIn (before now : Records) (pointer : Pointer) (new : Occurrence) (old later : ShelfView) (Leads : List Placed → List Placed → Type 0) : Type 0 where
   pub stays : StaysRecords before now later
   pub list : (trees : Chains) → Walks before old trees → ListBecomes now later trees Leads
-  pub cells : IsTold before.cells old → CellComes at (cells_seen before old) (cells_seen now later)
+  pub cells : IsTold before.cells old → CellComes before.schema pointer new (cells_seen before old) (cells_seen now later)
 
--- a row that was inserted at its place, named by its home
+-- a cell of the row, whatever its name and its pointers
+pub record IsCellOf (schema : Schema) (new : Occurrence) (cell : Cell) : Type 0 where
+  pub code : cell.code ≡ new.code
+  pub content : cell.content ≡ new.content
+  pub kinds : length cell.children ≡ kinds_of schema new
+
+-- By this rule the cell got its room in the data set of its type's letter, which has got so many pages as the rule says: `Places`, the lowest hole that
+-- fits, or `Appends`, behind all others as FRSPC has it. Of the tiles are told those before, and with the cell among them.
+pub record GetsRoom (Rule : SetId → Cell → (count at : ℕ) → List (List Tile) → List (List Tile) → Type 0) (records : Records) (cell : Cell) (old later : ShelfView) (at : ℕ) : Type 0 where
+  pub letter : IsTold records.cells old → place_at at ≡ place_of records.cells.letters cell.code
+  pub tiles : IsSaidOf records.cells cell old
+      (λ layout. (filled : List (List Tile)) × Rule (set_of records.cells cell) cell (added_for records.cells cell old later) at layout filled)
+
+-- so of a new row, before a pointer led to its cell
+pub record RowGetsRoom (Rule : SetId → Cell → (count at : ℕ) → List (List Tile) → List (List Tile) → Type 0) (records : Records) (new : Occurrence) (old later : ShelfView) (at : ℕ) : Type 0 where
+  pub cell : Cell
+  pub is : IsCellOf records.schema new cell
+  pub room : GetsRoom Rule records cell old later at
+
+-- a row that was inserted at its place, named by its home; its cell has the lowest hole
 pub record Inserts (before now : Records) (place : Place) (new : Occurrence) (old later : ShelfView) (name : Ilk) : Type 0 where
   pub name_is : name ≡ home_name before name.addr
-  pub row : RowIsIn before now name.addr old later (λ list changed. RowComes before.schema (name_of list place.parent) (at_home before None new name.addr) list changed)
+  pub room : RowGetsRoom Places before new old later name.addr
+  pub row : RowIsIn before now (pointer_from before.schema new.code place.parent place.prior) (at_home before None new name.addr) old later
+      (λ list changed. RowComes before.schema (name_of list place.parent) (at_home before None new name.addr) list changed)
 
 -- its address is above all others of its data set
 abbrev pub IsAboveAll : Records → ShelfView → ℕ → Type 0
 IsAboveAll records shelf at =
     IsTold records.cells shelf → (other : ℕ) (cell : Cell) → cells_seen records shelf other ≡ Some cell → place_at other ≡ place_at at → other < at
 
--- a row that came behind all its twins, with this name or else that of its home
-pub record ComesLast (before now : Records) (place : Place) (name : Option Ilk) (new : Occurrence) (old later : ShelfView) (at : ℕ) : Type 0 where
+-- a row that came behind all its twins, with this name or else that of its home, and whose cell came behind all others of its data set, by FRSPC
+pub record ComesLast (fbff fspf : ℕ) (before now : Records) (place : Place) (name : Option Ilk) (new : Occurrence) (old later : ShelfView) (at : ℕ) : Type 0 where
   pub above : IsAboveAll before old at
-  pub row : RowIsIn before now at old later (RowComesLast before.schema place.parent place.prior (at_home before name new at))
+  pub room : RowGetsRoom (λ set cell. Appends set cell fbff fspf) before new old later at
+  pub row : RowIsIn before now (pointer_from before.schema new.code place.parent place.prior) (at_home before name new at) old later
+      (RowComesLast before.schema place.parent place.prior (at_home before name new at))
 
-pub record LoadsRow (before now : Records) (place : Place) (new : Occurrence) (old later : ShelfView) (name : Ilk) : Type 0 where
+pub record LoadsRow (fbff fspf : ℕ) (before now : Records) (place : Place) (new : Occurrence) (old later : ShelfView) (name : Ilk) : Type 0 where
   pub name_is : name ≡ home_name before name.addr
-  pub row : ComesLast before now place None new old later name.addr
+  pub row : ComesLast fbff fspf before now place None new old later name.addr
 
 -- How many free blocks a new row may need: one for its cell, two where of so many pages one is left empty, and one more for the row of a root.
 abbrev pub root_need : ℕ → ℕ

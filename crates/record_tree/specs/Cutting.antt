@@ -1,13 +1,11 @@
 -- A span is cut out of the side's list: what becomes of its cells, and of the pointer that led to it.
-use Rattle.std.specs.Prelude.{◌≡◌, ◌≢◌, ℕ, ◌==◌, Bool, true, false, List, Option, None, Some, option_and_then}
+use Rattle.std.specs.Prelude.{◌≡◌, ◌≢◌, ℕ, ◌+◌, ◌*◌, ◌≤◌, ◌==◌, Bool, true, false, List, length, Option, None, Some, option_and_then}
 use Rattle.std.specs.List.{list_any}
 use Rattle.hal_base.specs.ShelfCalls.{ShelfView}
-use Rattle.hal_schema.specs.declared.schema.Schema.{Schema}
 use Rattle.segment_blocks.specs.declared.tile.Cell.{Cell}
 use Rattle.record_walk.specs.Tree.{Chains}
 use Rattle.record_walk.specs.Listing.{Placed, list_in}
-use Rattle.record_walk.specs.Orders.{child_place}
-use Rattle.record_walk.specs.Pointers.{Pointer, Behind, Below, Root}
+use Rattle.record_walk.specs.Pointers.{Pointer}
 use Rattle.record_walk.specs.Side.{alone}
 use Rattle.record_walk.specs.SideChanges.{SetsPointer}
 use Rattle.record_walk.specs.Spans.{span_at, without_span_at}
@@ -15,7 +13,8 @@ use Rattle.record_tree.specs.declared.place.Place.{Place}
 use Rattle.record_tree.specs.declared.records.Records.{Records}
 use Rattle.record_tree.specs.Changing.{ListBecomes}
 use Rattle.record_tree.specs.Finding.{first_child}
-use Rattle.record_tree.specs.Standing.{HoldsRow, StaysRecords, Walks, cells_seen}
+use Rattle.record_tree.specs.Placing.{pointer_from}
+use Rattle.record_tree.specs.Standing.{HoldsRow, OfList, StaysRecords, Walks, cells_seen}
 
 -- ---- which row it is
 
@@ -26,12 +25,6 @@ pub record LeadsTo (records : Records) (shelf : ShelfView) (place : Place) (at :
   pub twin : (above prior : ℕ) → place.parent ≡ Some above → place.prior ≡ Some prior → HoldsRow records shelf prior (λ cell. (cell.code ≢ 1) × (cell.twin ≡ at))
   pub child : (above : ℕ) (own : Cell) → place.parent ≡ Some above → place.prior ≡ None → cells_seen records shelf at ≡ Some own
       → HoldsRow records shelf above (λ cell. first_child records.schema own.code cell ≡ at)
-
--- the pointer to the row of a code at a place; that to a root stands in no cell
-abbrev pub pointer_from : Schema → (code : ℕ) → (parent prior : Option ℕ) → Pointer
-pointer_from schema code None prior = Root 0
-pointer_from schema code (Some above) None = Below above (child_place schema.types code)
-pointer_from schema code (Some above) (Some prior) = Behind prior
 
 -- ---- what becomes of a cell of the span
 
@@ -57,6 +50,10 @@ pub record Cuts (fate : Cell → Option Cell) (before now : Records) (place : Pl
   pub list : (trees : Chains) → Walks before old trees → ListBecomes now later trees (λ list changed. changed ≡ without_span_at before.schema.types list at)
   pub cells : (trees : Chains) (cell : Cell) → Walks before old trees → cells_seen before old at ≡ Some cell
       → CutsCells fate (pointer_from before.schema cell.code place.parent place.prior) (span_at before.schema.types (list_in None trees) at) cell (cells_seen before old) (cells_seen now later)
+
+-- The call reads pages at most twice for each row of the span, and three times more: it costs no more where other rows are many.
+abbrev pub ReadsForSpan : Records → ℕ → ShelfView → ShelfView → Type 0
+ReadsForSpan records at old later = OfList records old (λ list. later.fetches ≤ old.fetches + (3 + 2 * length (span_at records.schema.types list at)))
 
 -- the place of a root
 abbrev pub no_place : Place

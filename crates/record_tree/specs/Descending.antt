@@ -1,5 +1,5 @@
 -- Words of the private functions: the way down a span, and a pointer that is set past it.
-use Rattle.std.specs.Prelude.{◌≡◌, ◌≢◌, ℕ, ◌<◌, ◌≤◌, false, List, [], ◌∷◌, ◌++◌, Option, None, Some, option_and_then, ⊤}
+use Rattle.std.specs.Prelude.{◌≡◌, ◌≢◌, ℕ, ◌+◌, ◌*◌, ◌<◌, ◌≤◌, false, List, [], ◌∷◌, ◌++◌, Option, None, Some, option_and_then, ⊤}
 use Rattle.std.specs.List.{remove}
 use Rattle.hal_base.specs.declared.pages.SetId.{SetId}
 use Rattle.hal_base.specs.Pages.{SameSets}
@@ -8,10 +8,10 @@ use Rattle.hal_schema.specs.declared.schema.Schema.{Schema}
 use Rattle.segment_blocks.specs.declared.tile.Cell.{Cell}
 use Rattle.free_space.specs.declared.side.SideCells.{SideCells}
 use Rattle.free_space.specs.Map.{SameElsewhere}
-use Rattle.free_space.specs.SideCalls.{StandsForSide, IsTold}
+use Rattle.free_space.specs.SideCalls.{StandsForSide, IsTold, cells_of}
 use Rattle.free_space.specs.SideLaws.{IsApart}
 use Rattle.keyed_sets.specs.Calls.{IsOpened}
-use Rattle.record_walk.specs.Tree.{Chains, firsts_of, HangIn, times_in}
+use Rattle.record_walk.specs.Tree.{Twins, no_segment, segment, Chains, no_chain, chain, firsts_of, HangIn, times_in}
 use Rattle.record_walk.specs.Changes.{stands_in}
 use Rattle.record_walk.specs.Pointers.{Pointer, Behind, Below, Root}
 use Rattle.record_walk.specs.Side.{RootRow, alone, seen}
@@ -72,6 +72,23 @@ pub record EndsSpan (fate : Cell → Option Cell) (at : ℕ) (below : Chains) (o
 
 abbrev pub EndsSpanAt : (Cell → Option Cell) → ℕ → (ℕ → Option Cell) → (ℕ → Option Cell) → Type 0
 EndsSpanAt fate at old new = (below : Chains) → HangsAt old at below → EndsSpan fate at below old new
+
+-- how many segments trees have
+abbrev mutual
+  pub size : Twins → ℕ
+  size no_segment = 0
+  size (segment s below next) = 1 + (size_in below + size next)
+
+  pub size_in : Chains → ℕ
+  size_in no_chain = 0
+  size_in (chain twins more) = size twins + size_in more
+
+-- a page was read at most twice for each cell that hung from the pending addresses, and so for a cell and all below it
+abbrev pub ReadsTwice : SideCells → List ℕ → ShelfView → ShelfView → Type 0
+ReadsTwice cells pending old new = IsTold cells old → (trees : Chains) → Pend (cells_of cells old) pending trees → new.fetches ≤ old.fetches + 2 * size_in trees
+
+abbrev pub ReadsSpanTwice : SideCells → ℕ → ShelfView → ShelfView → Type 0
+ReadsSpanTwice cells at old new = IsTold cells old → (below : Chains) → HangsAt (cells_of cells old) at below → new.fetches ≤ old.fetches + (2 + 2 * size_in below)
 
 -- a call that changes pages of the side's cells alone, and adds none
 pub record ChangesCells (cells : SideCells) (steady failed : Type 0) (old new : ShelfView) : Type 0 where

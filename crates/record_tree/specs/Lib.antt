@@ -9,3 +9,4 @@ pub mod Cutting
 -- words of the private functions
 pub mod Storing
 pub mod Descending
+pub mod Walking

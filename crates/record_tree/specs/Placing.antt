@@ -13,7 +13,7 @@ use Rattle.record_walk.specs.Listing.{Placed, placed}
 use Rattle.record_walk.specs.ByKey.{home_where, is_root_where}
 use Rattle.record_walk.specs.Leads.{stand_so}
 use Rattle.record_walk.specs.Orders.{child_place}
-use Rattle.record_walk.specs.Pointers.{Pointer, Behind, Below}
+use Rattle.record_walk.specs.Pointers.{Pointer, Behind, Below, Root}
 use Rattle.record_walk.specs.Side.{key_of, seen}
 use Rattle.record_walk.specs.Firsts.{NextStaysBehind}
 use Rattle.record_walk.specs.Changes.{leads_to, set_content}
@@ -36,10 +36,16 @@ child_of above new = (placed (Some above.name) new).row
 abbrev pub name_of : List Placed → Option ℕ → Option Ilk
 name_of list parent = option_and_then (λ at. option_map (λ (p : Placed). p.row.name) (find (λ (p : Placed). p.home == at) list)) parent
 
--- the pointer that will lead to a new dependent: that of the twin before it, or of its parent
+-- the pointer that leads, or will lead, to a dependent of a code: that of the twin before it, or of its parent
 abbrev pub pointer_at : Schema → (above code : ℕ) → Option ℕ → Pointer
 pointer_at schema above code None = Below above (child_place schema.types code)
 pointer_at schema above code (Some prior) = Behind prior
+
+-- so of a row at a place; that to a root stands in no cell
+abbrev pub pointer_from : Schema → (code : ℕ) → (parent prior : Option ℕ) → Pointer
+pointer_from schema code None prior = Root 0
+pointer_from schema code (Some above) None = Below above (child_place schema.types code)
+pointer_from schema code (Some above) (Some prior) = Behind prior
 
 -- The place of a new dependent: its parent is of the parent type, the twin before it, if there is one, is one that must stand before it, and the next
 -- twin isn't. Twins stand in order, so this one twin is the last of those that must stand before it, and no other has to be looked at.

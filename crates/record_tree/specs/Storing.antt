@@ -1,14 +1,17 @@
 -- Words of the private functions: a cell that is stored for a new row, before a pointer leads to it.
-use Rattle.std.specs.Prelude.{◌≡◌, ◌≢◌, ◌==◌, ℕ, ◌<◌, if◌then◌else◌, ◌+◌, length, Option, None, Some, unwrap_or, ⊤}
+use Rattle.std.specs.Prelude.{◌≡◌, ◌≢◌, ◌==◌, ℕ, ◌<◌, if◌then◌else◌, ◌+◌, List, length, Option, None, Some, unwrap_or, ⊤}
+use Rattle.hal_base.specs.declared.pages.SetId.{SetId}
 use Rattle.hal_base.specs.declared.place.Ilk.{Ilk}
 use Rattle.hal_base.specs.ShelfCalls.{ShelfView}
 use Rattle.hal_schema.specs.declared.schema.Schema.{Schema}
 use Rattle.segment_blocks.specs.declared.tile.Cell.{Cell}
+use Rattle.segment_blocks.specs.declared.tile.Tile.{Tile}
 use Rattle.free_space.specs.Map.{Adds}
+use Rattle.free_space.specs.Placing.{Places, Appends}
 use Rattle.free_space.specs.SideCalls.{StaysOpenOn, IsTold, Turns}
 use Rattle.keyed_sets.specs.Calls.{IsOpened}
 use Rattle.record_walk.specs.Tree.{Occurrence, Chains}
-use Rattle.record_walk.specs.Pointers.{with_segment}
+use Rattle.record_walk.specs.Pointers.{Root, with_segment}
 use Rattle.record_walk.specs.Changes.{new_cell}
 use Rattle.record_walk.specs.Orders.{child_place}
 use Rattle.record_walk.specs.SideChanges.{kinds_of}
@@ -19,7 +22,7 @@ use Rattle.record_tree.specs.declared.room.Room.{Room}
 use Rattle.record_tree.specs.declared.room.Room.TheVariants.{Lowest, Past}
 use Rattle.record_tree.specs.Standing.{cells_seen, rows_seen, HoldsRow, StaysRecords, Walks}
 use Rattle.record_tree.specs.Placing.{HasPointer, IsNewRoot, unplaced, pointer_at, led_to}
-use Rattle.record_tree.specs.Changing.{CellComes, RowComes, RowIsIn, at_home, root_need, IsAboveAll}
+use Rattle.record_tree.specs.Changing.{CellComes, RowComes, RowIsIn, at_home, root_need, IsAboveAll, IsCellOf, GetsRoom}
 
 -- how many pages the room for a cell may take
 abbrev pub room_need : Room → ℕ
@@ -35,6 +38,22 @@ IsStep (Past fbff fspf) = fbff ≢ 1
 abbrev pub IsPast : Room → Records → ShelfView → ℕ → Type 0
 IsPast Lowest records shelf at = ⊤
 IsPast (Past fbff fspf) records shelf at = IsAboveAll records shelf at
+
+-- by which rule a cell gets its room
+abbrev pub rule_of : Room → SetId → Cell → (count at : ℕ) → List (List Tile) → List (List Tile) → Type 0
+rule_of Lowest = Places
+rule_of (Past fbff fspf) = λ set cell. Appends set cell fbff fspf
+
+-- it has the room that was wanted
+pub record HasRoom (room : Room) (records : Records) (cell : Cell) (old later : ShelfView) (at : ℕ) : Type 0 where
+  pub past : IsPast room records old at
+  pub gets : GetsRoom (rule_of room) records cell old later at
+
+-- and so of a new row
+pub record RowHasRoom (room : Room) (records : Records) (new : Occurrence) (old later : ShelfView) (at : ℕ) : Type 0 where
+  pub cell : Cell
+  pub is : IsCellOf records.schema new cell
+  pub room_is : HasRoom room records cell old later at
 
 -- the cell came to an address; all else of the side is as it was
 pub record StoresCell (before now : Records) (cell : Cell) (old later : ShelfView) (at : ℕ) : Type 0 where
@@ -90,11 +109,13 @@ pub record Joins (before now : Records) (above : ℕ) (prior : Option ℕ) (new 
   pub stays : StaysRecords before now later
   pub place : HoldsRow before old (pointer_home above prior) (HasChildPlace before.schema prior new.code)
   pub trees : (trees : Chains) → Walks before old trees → Walks now later (joined_trees before above prior new at trees)
-  pub cells : IsTold before.cells old → CellComes at (cells_seen before old) (cells_seen now later)
+  pub cells : IsTold before.cells old
+      → CellComes before.schema (pointer_at before.schema above new.code prior) (at_home before new.name (segment_for new) at) (cells_seen before old) (cells_seen now later)
 
 -- a new root came
 abbrev pub ComesAsRoot : Records → Records → NewRow → ShelfView → ShelfView → ℕ → Type 0
-ComesAsRoot before now new old later at = RowIsIn before now at old later (RowComes before.schema None (at_home before new.name (segment_for new) at))
+ComesAsRoot before now new old later at =
+    RowIsIn before now (Root 0) (at_home before new.name (segment_for new) at) old later (RowComes before.schema None (at_home before new.name (segment_for new) at))
 
 -- how many free blocks it may need
 abbrev pub row_need : NewRow → ℕ

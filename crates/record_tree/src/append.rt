@@ -1,5 +1,5 @@
 // A new row behind all its twins, whose cell goes past all others.
-ghost use Rattle.std.specs.Prelude.{◌≢◌, ◌<◌, Some, length, IfOk, IsErrOf, IsTrue};
+ghost use Rattle.std.specs.Prelude.{◌≤◌, ◌+◌, ◌≢◌, ◌<◌, Some, length, IfOk, IsErrOf, IsTrue};
 ghost use Rattle.record_tree.specs.Changing.{ChangesSide, TakesSide, ComesLast, LoadsRow, loading_need};
 ghost use Rattle.record_tree.specs.Placing.{IsPlaceLast, FitsType, unplaced};
 ghost use Rattle.record_tree.specs.Standing.{StandsForRecords};
@@ -31,8 +31,10 @@ impl Records {
         requires fits { FitsType self.old.schema (unplaced row.now.code row.now.content) }
         requires place { IsPlaceLast self.old (H.seen shelf.old) place (unplaced row.now.code row.now.content) }
         requires step { fbff ≢ 1 }
-        ensures appended { IfOk result (ComesLast self.old self.new place (Some row.now.name) (unplaced row.now.code row.now.content) (H.seen shelf.old) (H.seen shelf.new)) }
+        ensures appended { IfOk result (ComesLast fbff fspf self.old self.new place (Some row.now.name) (unplaced row.now.code row.now.content)
+            (H.seen shelf.old) (H.seen shelf.new)) }
         ensures no_room { IsErrOf result PageFault.NoRoom → length (H.seen shelf.old).free < loading_need fbff row.now.code }
+        ensures few { (H.seen shelf.new).fetches ≤ (H.seen shelf.old).fetches + 4 }
         ensures leaves { ChangesSide (loading_need fbff row.now.code) self.old (H.steady shelf.old shelf.new) (IsErrOf result PageFault.Failed)
             (H.seen shelf.old) (H.seen shelf.new) }
     {
@@ -68,8 +70,9 @@ impl Records {
         requires fits { FitsType self.old.schema (unplaced code content.now) }
         requires place { IsPlaceLast self.old (H.seen shelf.old) place (unplaced code content.now) }
         requires step { fbff ≢ 1 }
-        ensures loaded { IfOk result (LoadsRow self.old self.new place (unplaced code content.now) (H.seen shelf.old) (H.seen shelf.new)) }
+        ensures loaded { IfOk result (LoadsRow fbff fspf self.old self.new place (unplaced code content.now) (H.seen shelf.old) (H.seen shelf.new)) }
         ensures no_room { IsErrOf result PageFault.NoRoom → length (H.seen shelf.old).free < loading_need fbff code }
+        ensures few { (H.seen shelf.new).fetches ≤ (H.seen shelf.old).fetches + 4 }
         ensures leaves { ChangesSide (loading_need fbff code) self.old (H.steady shelf.old shelf.new) (IsErrOf result PageFault.Failed) (H.seen shelf.old) (H.seen shelf.new) }
     {
         child_places();

@@ -1,9 +1,9 @@
 // A new dependent: its cell is stored, and then the pointer is set to it.
-ghost use Rattle.std.specs.Prelude.{◌<◌, length, IfOk, IsErrOf, IsTrue};
+ghost use Rattle.std.specs.Prelude.{◌≤◌, ◌+◌, ◌<◌, length, IfOk, IsErrOf, IsTrue};
 ghost use Rattle.record_tree.specs.Changing.{ChangesSide, TakesSide};
 ghost use Rattle.record_tree.specs.Placing.{FitsType, HasPointer};
 ghost use Rattle.record_tree.specs.Standing.{StandsForRecords};
-ghost use Rattle.record_tree.specs.Storing.{IsPast, IsStep, Joins, room_need, segment_for};
+ghost use Rattle.record_tree.specs.Storing.{RowHasRoom, IsStep, Joins, room_need, segment_for};
 
 use crate::Records;
 use crate::new_row::NewRow;
@@ -29,8 +29,9 @@ impl Records {
         requires step { IsStep new.room }
         requires pointer { HasPointer self.old (H.seen shelf.old) above prior new.code }
         ensures joins { IfOk result (Joins self.old self.new above prior new (H.seen shelf.old) (H.seen shelf.new)) }
-        ensures past { IfOk result (IsPast new.room self.old (H.seen shelf.old)) }
+        ensures room { IfOk result (RowHasRoom new.room self.old (segment_for new) (H.seen shelf.old) (H.seen shelf.new)) }
         ensures no_room { IsErrOf result PageFault.NoRoom → length (H.seen shelf.old).free < room_need new.room }
+        ensures few { (H.seen shelf.new).fetches ≤ (H.seen shelf.old).fetches + 4 }
         ensures leaves { ChangesSide (room_need new.room) self.old (H.steady shelf.old shelf.new) (IsErrOf result PageFault.Failed) (H.seen shelf.old) (H.seen shelf.new) }
     {
         changed_sides();

@@ -1,7 +1,7 @@
 // The way down a span, cell by cell.
-ghost use Rattle.std.specs.Prelude.{◌≡◌, ◌++◌, false, OnOk, IsErrOf, IsTrue};
+ghost use Rattle.std.specs.Prelude.{◌≡◌, ◌+◌, ◌≤◌, ◌++◌, false, OnOk, IsErrOf, IsTrue};
 ghost use Rattle.free_space.specs.SideCalls.{StandsForSide, StaysOpenOn, Holds, IsTold, OnlyChangesAt, Turns, cells_of};
-ghost use Rattle.record_tree.specs.Descending.{CanHangAt, CanPend, ChangesCells, EndsAll, EndsCell, EndsSpanAt, Meets, fate_of};
+ghost use Rattle.record_tree.specs.Descending.{CanHangAt, CanPend, ChangesCells, EndsAll, EndsCell, EndsSpanAt, Meets, ReadsSpanTwice, ReadsTwice, fate_of};
 ghost use Rattle.record_walk.specs.Side.{alone};
 
 use free_space::SideCells;
@@ -26,6 +26,7 @@ impl Fate {
         requires cell { Holds cells.old (H.seen shelf.old) at (λ cell. cell.copied ≡ false) }
         ensures ended { OnOk result (Turns cells.old cells.new (H.seen shelf.old) (H.seen shelf.new) (EndsCell (fate_of self) at)) }
         ensures stays { StaysOpenOn cells.old cells.new (H.seen shelf.new) }
+        ensures few { (H.seen shelf.new).fetches ≤ (H.seen shelf.old).fetches + 1 }
         ensures leaves { OnlyChangesAt cells.old at (H.steady shelf.old shelf.new) (IsErrOf result PageFault.Failed) (H.seen shelf.old) (H.seen shelf.new) }
         ensures room { IsErrOf result PageFault.NoRoom → ⊥ }
     {
@@ -71,6 +72,7 @@ impl Descent {
         requires cell { Holds cells.old (H.seen shelf.old) at (λ cell. cell.copied ≡ false) }
         ensures met { OnOk result (Turns cells.old cells.new (H.seen shelf.old) (H.seen shelf.new) (Meets (fate_of self.old.fate) at self.old.pending.items self.new.pending.items)) }
         ensures same { self.new.fate ≡ self.old.fate }
+        ensures few { (H.seen shelf.new).fetches ≤ (H.seen shelf.old).fetches + 2 }
         ensures stays { StaysOpenOn cells.old cells.new (H.seen shelf.new) }
         ensures leaves { ChangesCells cells.old (H.steady shelf.old shelf.new) (IsErrOf result PageFault.Failed) (H.seen shelf.old) (H.seen shelf.new) }
         ensures room { IsErrOf result PageFault.NoRoom → ⊥ }
@@ -88,6 +90,7 @@ impl Descent {
         requires stands { StandsForSide cells.old (H.seen shelf.old) }
         requires pend { IsTold cells.old (H.seen shelf.old) → CanPend (cells_of cells.old (H.seen shelf.old)) self.old.pending.items }
         ensures finished { OnOk result (Turns cells.old cells.new (H.seen shelf.old) (H.seen shelf.new) (EndsAll (fate_of self.old.fate) self.old.pending.items)) }
+        ensures few { ReadsTwice cells.old self.old.pending.items (H.seen shelf.old) (H.seen shelf.new) }
         ensures stays { StaysOpenOn cells.old cells.new (H.seen shelf.new) }
         ensures leaves { ChangesCells cells.old (H.steady shelf.old shelf.new) (IsErrOf result PageFault.Failed) (H.seen shelf.old) (H.seen shelf.new) }
         ensures room { IsErrOf result PageFault.NoRoom → ⊥ }
@@ -117,6 +120,7 @@ pub(crate) fn end_span<H: Shelf>(
     requires stands { StandsForSide cells.old (H.seen shelf.old) }
     requires hangs { IsTold cells.old (H.seen shelf.old) → CanHangAt (cells_of cells.old (H.seen shelf.old)) at }
     ensures ended { OnOk result (Turns cells.old cells.new (H.seen shelf.old) (H.seen shelf.new) (EndsSpanAt (fate_of fate) at)) }
+    ensures few { ReadsSpanTwice cells.old at (H.seen shelf.old) (H.seen shelf.new) }
     ensures stays { StaysOpenOn cells.old cells.new (H.seen shelf.new) }
     ensures leaves { ChangesCells cells.old (H.steady shelf.old shelf.new) (IsErrOf result PageFault.Failed) (H.seen shelf.old) (H.seen shelf.new) }
     ensures room { IsErrOf result PageFault.NoRoom → ⊥ }

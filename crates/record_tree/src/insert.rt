@@ -1,9 +1,9 @@
 // A new row at its place.
-ghost use Rattle.std.specs.Prelude.{◌<◌, length, IfOk, IsErrOf, IsTrue};
+ghost use Rattle.std.specs.Prelude.{◌≤◌, ◌+◌, ◌<◌, length, IfOk, IsErrOf, IsTrue};
 ghost use Rattle.record_tree.specs.Changing.{ChangesSide, TakesSide, Inserts, insertion_need};
 ghost use Rattle.record_tree.specs.Placing.{IsPlace, FitsType, unplaced};
 ghost use Rattle.record_tree.specs.Standing.{StandsForRecords};
-ghost use Rattle.record_tree.specs.Storing.{ComesAt, HasPlace, IsPast, IsStep, row_need, segment_for};
+ghost use Rattle.record_tree.specs.Storing.{ComesAt, HasPlace, RowHasRoom, IsStep, row_need, segment_for};
 
 use crate::new_row::NewRow;
 use crate::room::Room;
@@ -30,8 +30,9 @@ impl Records {
         requires step { IsStep new.room }
         requires place { HasPlace self.old (H.seen shelf.old) place new }
         ensures comes { IfOk result (ComesAt self.old self.new place new (H.seen shelf.old) (H.seen shelf.new)) }
-        ensures past { IfOk result (IsPast new.room self.old (H.seen shelf.old)) }
+        ensures room { IfOk result (RowHasRoom new.room self.old (segment_for new) (H.seen shelf.old) (H.seen shelf.new)) }
         ensures no_room { IsErrOf result PageFault.NoRoom → length (H.seen shelf.old).free < row_need new }
+        ensures few { (H.seen shelf.new).fetches ≤ (H.seen shelf.old).fetches + 4 }
         ensures leaves { ChangesSide (row_need new) self.old (H.steady shelf.old shelf.new) (IsErrOf result PageFault.Failed) (H.seen shelf.old) (H.seen shelf.new) }
     {
         match place.parent {
@@ -40,7 +41,8 @@ impl Records {
         }
     }
 
-    /// Inserts a row at its place, named by its home, and answers that name. Its cell gets the lowest hole that has place for it.
+    /// Inserts a row at its place, named by its home, and answers that name. Its cell gets the lowest hole that has place
+    /// for it. Four pages are read at most, however large the volume is.
     pub fn insert<H: Shelf>(
         &mut self,
         shelf: &mut H,
@@ -55,6 +57,7 @@ impl Records {
         requires place { IsPlace self.old (H.seen shelf.old) place (unplaced code content.now) }
         ensures inserted { IfOk result (Inserts self.old self.new place (unplaced code content.now) (H.seen shelf.old) (H.seen shelf.new)) }
         ensures no_room { IsErrOf result PageFault.NoRoom → length (H.seen shelf.old).free < insertion_need code }
+        ensures few { (H.seen shelf.new).fetches ≤ (H.seen shelf.old).fetches + 4 }
         ensures leaves { ChangesSide (insertion_need code) self.old (H.steady shelf.old shelf.new) (IsErrOf result PageFault.Failed) (H.seen shelf.old) (H.seen shelf.new) }
     {
         child_places();

@@ -13,7 +13,7 @@
 //! the condition of each call, and each gives it back. After a fault the shelf is to be forgotten.
 //!
 //! `records.rt` has `Records`, `open.rt` opens them; `sides.rt` what a definition says of a side
-//! `roots.rt` finds roots by key, `links.rt` cells, and what they lead to; `replace.rt` replaces a content
+//! `roots.rt` finds roots by key, `links.rt` cells, and what they lead to; `walk.rt` goes through all rows; `replace.rt` replaces a content
 //! `insert.rt` adds a row at its `place.rt`, `append.rt` behind all its twins: below a row (`dependent.rt`) or as a root
 //! (`root_row.rt`). `store.rt` stores the cell of a `new_row.rt` where it gets `room.rt`; `pointer.rt` leads to a dependent
 //! `remove.rt` cuts spans and records out: `parting.rt` sets the pointer past them, `descent.rt` ends their cells
@@ -37,6 +37,8 @@ mod root_row;
 mod roots;
 mod sides;
 mod store;
+mod walk;
 
 pub use place::Place;
 pub use records::Records;
+pub use walk::HomedRow;

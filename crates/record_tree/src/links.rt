@@ -3,13 +3,14 @@ ghost use Rattle.std.specs.Prelude.{◌≡◌, ◌≢◌, ◌<◌, ◌≤◌, So
 ghost use Rattle.hal_base.specs.ShelfCalls.{OnlyReads};
 ghost use Rattle.hal_schema.specs.SegType.{parent_code};
 ghost use Rattle.free_space.specs.SideCalls.{Finds};
-ghost use Rattle.record_tree.specs.Finding.{FindsChild, FindsTwin, pointed};
+ghost use Rattle.record_walk.specs.Leads.{pointed};
+ghost use Rattle.record_tree.specs.Finding.{FindsChild, FindsTwin};
 ghost use Rattle.record_tree.specs.Standing.{StandsForRecords, HoldsRow};
 
 use crate::Records;
 use crate::sides::child_place;
 use hal_base::{PageFault, Shelf};
-use record_walk::{child_places, pointers_lead_on};
+use record_walk::{child_places, children_are_first, pointers_lead_on, twins_are_next};
 use segment_blocks::Cell;
 
 /// What an address in a cell leads to.
@@ -33,7 +34,7 @@ impl Records {
         self.cells.cell(shelf, at)
     }
 
-    /// The home of the first child of a child type, below the row at a home.
+    /// The home of the first child of a child type, below the row at a home; `None` exactly where it has none.
     pub fn child<H: Shelf>(
         &self,
         shelf: &mut H,
@@ -51,6 +52,7 @@ impl Records {
         ensures room { IsErrOf result PageFault.NoRoom → ⊥ }
     {
         child_places();
+        children_are_first();
         pointers_lead_on();
         let cell = self.cells.cell(shelf, at)?;
         let place = child_place(self.schema.types.as_slice(), code);
@@ -61,7 +63,8 @@ impl Records {
         Ok(pointed(children[place]))
     }
 
-    /// The home of the next twin of the row at a home, which is a dependent: what a PHIDAM root has as its twin means nothing.
+    /// The home of the next twin of the row at a home, which is a dependent; `None` exactly where it has none. What a PHIDAM
+    /// root has as its twin means nothing.
     pub fn twin<H: Shelf>(&self, shelf: &mut H, at: u32) -> Result<Option<u32>, PageFault>
         requires live { IsTrue (H.seen shelf.old).live }
         requires stands { StandsForRecords self.now (H.seen shelf.old) }
@@ -72,6 +75,7 @@ impl Records {
         ensures room { IsErrOf result PageFault.NoRoom → ⊥ }
     {
         pointers_lead_on();
+        twins_are_next();
         let cell = self.cells.cell(shelf, at)?;
         Ok(pointed(cell.twin))
     }

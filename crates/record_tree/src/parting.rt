@@ -1,12 +1,13 @@
 // A row is taken out of its chain of twins: the pointer that led to it is set to its next twin.
-ghost use Rattle.std.specs.Prelude.{◌≡◌, ◌≢◌, None, Some, OnOk, IsErrOf, IsTrue};
+ghost use Rattle.std.specs.Prelude.{◌≡◌, ◌≢◌, ◌+◌, ◌≤◌, None, Some, OnOk, IsErrOf, IsTrue};
 ghost use Rattle.free_space.specs.SideCalls.{Finds};
 ghost use Rattle.record_walk.specs.Orders.{child_place};
 ghost use Rattle.record_walk.specs.Pointers.{Behind, Below, Root};
 ghost use Rattle.record_tree.specs.Changing.{ChangesSide};
-ghost use Rattle.record_tree.specs.Cutting.{LeadsTo, pointer_from};
+ghost use Rattle.record_tree.specs.Cutting.{LeadsTo};
 ghost use Rattle.record_tree.specs.Descending.{PartsFrom};
 ghost use Rattle.record_tree.specs.Finding.{first_child};
+ghost use Rattle.record_tree.specs.Placing.{pointer_from};
 ghost use Rattle.record_tree.specs.Standing.{StandsForRecords, HoldsRow};
 
 use crate::descent::next_twin;
@@ -42,6 +43,7 @@ impl Records {
         requires cell { Finds self.old.cells (H.seen shelf.old) at (Some cell.now) }
         requires prior { HoldsRow self.old (H.seen shelf.old) prior (λ cell. (cell.code ≢ 1) × (cell.twin ≡ at)) }
         ensures parted { OnOk result (PartsFrom self.old self.new (Behind prior) at cell.now (H.seen shelf.old) (H.seen shelf.new)) }
+        ensures few { (H.seen shelf.new).fetches ≤ (H.seen shelf.old).fetches + 1 }
         ensures leaves { ChangesSide 0 self.old (H.steady shelf.old shelf.new) (IsErrOf result PageFault.Failed) (H.seen shelf.old) (H.seen shelf.new) }
         ensures room { IsErrOf result PageFault.NoRoom → ⊥ }
     {
@@ -62,6 +64,7 @@ impl Records {
         requires above { HoldsRow self.old (H.seen shelf.old) above (λ above. first_child self.old.schema cell.now.code above ≡ at) }
         ensures parted { OnOk result (PartsFrom self.old self.new (Below above (child_place self.old.schema.types cell.now.code)) at cell.now
             (H.seen shelf.old) (H.seen shelf.new)) }
+        ensures few { (H.seen shelf.new).fetches ≤ (H.seen shelf.old).fetches + 1 }
         ensures leaves { ChangesSide 0 self.old (H.steady shelf.old shelf.new) (IsErrOf result PageFault.Failed) (H.seen shelf.old) (H.seen shelf.new) }
         ensures room { IsErrOf result PageFault.NoRoom → ⊥ }
     {
@@ -82,6 +85,7 @@ impl Records {
         requires cell { Finds self.old.cells (H.seen shelf.old) at (Some cell.now) }
         requires root { HoldsRow self.old (H.seen shelf.old) at (λ cell. cell.code ≡ 1) }
         ensures parted { OnOk result (PartsFrom self.old self.new (Root 0) at cell.now (H.seen shelf.old) (H.seen shelf.new)) }
+        ensures few { (H.seen shelf.new).fetches ≤ (H.seen shelf.old).fetches + 2 }
         ensures leaves { ChangesSide 0 self.old (H.steady shelf.old shelf.new) (IsErrOf result PageFault.Failed) (H.seen shelf.old) (H.seen shelf.new) }
         ensures room { IsErrOf result PageFault.NoRoom → ⊥ }
     {
@@ -116,6 +120,7 @@ impl Records {
         requires leads { LeadsTo self.old (H.seen shelf.old) place at }
         ensures parted { OnOk result (PartsFrom self.old self.new (pointer_from self.old.schema cell.now.code place.parent place.prior) at cell.now
             (H.seen shelf.old) (H.seen shelf.new)) }
+        ensures few { (H.seen shelf.new).fetches ≤ (H.seen shelf.old).fetches + 2 }
         ensures leaves { ChangesSide 0 self.old (H.steady shelf.old shelf.new) (IsErrOf result PageFault.Failed) (H.seen shelf.old) (H.seen shelf.new) }
         ensures room { IsErrOf result PageFault.NoRoom → ⊥ }
     {

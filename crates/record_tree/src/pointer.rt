@@ -1,5 +1,5 @@
 // The pointer that leads to a new dependent: that of the twin before it, or of its parent.
-ghost use Rattle.std.specs.Prelude.{◌≡◌, ◌<◌, ◌≤◌, length, IfOk, OnOk, IsErrOf, IsTrue};
+ghost use Rattle.std.specs.Prelude.{◌+◌, ◌≡◌, ◌<◌, ◌≤◌, length, IfOk, OnOk, IsErrOf, IsTrue};
 ghost use Rattle.hal_base.specs.ShelfCalls.{OnlyReads};
 ghost use Rattle.free_space.specs.Map.{Alters};
 ghost use Rattle.free_space.specs.SideCalls.{StandsForSide, Holds, OnlyChangesAt, Turns};
@@ -66,6 +66,7 @@ impl Records {
         ensures set { OnOk result (Turns self.now.cells self.now.cells (H.seen shelf.old) (H.seen shelf.new)
             (Alters (pointer_home above prior) (set_in_cell (pointer_at self.now.schema above code prior) to))) }
         ensures stands { StandsForSide self.now.cells (H.seen shelf.new) }
+        ensures few { (H.seen shelf.new).fetches ≤ (H.seen shelf.old).fetches + 1 }
         ensures leaves { OnlyChangesAt self.now.cells (pointer_home above prior) (H.steady shelf.old shelf.new) (IsErrOf result PageFault.Failed) (H.seen shelf.old) (H.seen shelf.new) }
         ensures room { IsErrOf result PageFault.NoRoom → ⊥ }
     {

@@ -1,7 +1,7 @@
 // Spans that are cut out of the list: of rows that go, and of records that a unit has copied.
 ghost use Rattle.std.specs.Prelude.{◌≡◌, OnOk, IsErrOf, IsTrue};
 ghost use Rattle.record_tree.specs.Changing.{ChangesSide};
-ghost use Rattle.record_tree.specs.Cutting.{Cuts, LeadsTo, marked, no_cell, no_place};
+ghost use Rattle.record_tree.specs.Cutting.{Cuts, LeadsTo, ReadsForSpan, marked, no_cell, no_place};
 ghost use Rattle.record_tree.specs.Descending.{fate_of};
 ghost use Rattle.record_tree.specs.Standing.{StandsForRecords, HoldsRow};
 
@@ -25,6 +25,7 @@ impl Records {
         requires stands { StandsForRecords self.old (H.seen shelf.old) }
         requires leads { LeadsTo self.old (H.seen shelf.old) place at }
         ensures cut { OnOk result (Cuts (fate_of fate) self.old self.new place at (H.seen shelf.old) (H.seen shelf.new)) }
+        ensures few { ReadsForSpan self.old at (H.seen shelf.old) (H.seen shelf.new) }
         ensures leaves { ChangesSide 0 self.old (H.steady shelf.old shelf.new) (IsErrOf result PageFault.Failed) (H.seen shelf.old) (H.seen shelf.new) }
         ensures room { IsErrOf result PageFault.NoRoom → ⊥ }
     {
@@ -51,6 +52,7 @@ impl Records {
         requires stands { StandsForRecords self.old (H.seen shelf.old) }
         requires leads { LeadsTo self.old (H.seen shelf.old) place at }
         ensures removed { OnOk result (Cuts no_cell self.old self.new place at (H.seen shelf.old) (H.seen shelf.new)) }
+        ensures few { ReadsForSpan self.old at (H.seen shelf.old) (H.seen shelf.new) }
         ensures leaves { ChangesSide 0 self.old (H.steady shelf.old shelf.new) (IsErrOf result PageFault.Failed) (H.seen shelf.old) (H.seen shelf.new) }
         ensures room { IsErrOf result PageFault.NoRoom → ⊥ }
     {
@@ -64,6 +66,7 @@ impl Records {
         requires stands { StandsForRecords self.old (H.seen shelf.old) }
         requires row { HoldsRow self.old (H.seen shelf.old) root (λ cell. cell.code ≡ 1) }
         ensures retired { OnOk result (Cuts marked self.old self.new no_place root (H.seen shelf.old) (H.seen shelf.new)) }
+        ensures few { ReadsForSpan self.old root (H.seen shelf.old) (H.seen shelf.new) }
         ensures leaves { ChangesSide 0 self.old (H.steady shelf.old shelf.new) (IsErrOf result PageFault.Failed) (H.seen shelf.old) (H.seen shelf.new) }
         ensures room { IsErrOf result PageFault.NoRoom → ⊥ }
     {

@@ -1,5 +1,5 @@
 // The content of a row is replaced.
-ghost use Rattle.std.specs.Prelude.{◌≡◌, OnOk, OnErr, IsErrOf, IsTrue};
+ghost use Rattle.std.specs.Prelude.{◌≤◌, ◌+◌, ◌≡◌, OnOk, OnErr, IsErrOf, IsTrue};
 ghost use Rattle.hal_base.specs.ShelfCalls.{SameShelf};
 ghost use Rattle.record_tree.specs.Changing.{ChangesSide, Replaces};
 ghost use Rattle.record_tree.specs.Placing.{KeepsKey};
@@ -22,6 +22,7 @@ impl Records {
         requires row { HoldsRow self.old (H.seen shelf.old) at (KeepsKey self.old.schema at content.now) }
         ensures replaced { OnOk result (Replaces self.old at content.now (H.seen shelf.old) (H.seen shelf.new)) }
         ensures kept { (self.new ≡ self.old) × StandsForRecords self.new (H.seen shelf.new) }
+        ensures few { (H.seen shelf.new).fetches ≤ (H.seen shelf.old).fetches + 1 }
         ensures leaves { ChangesSide 0 self.old (H.steady shelf.old shelf.new) (IsErrOf result PageFault.Failed) (H.seen shelf.old) (H.seen shelf.new) }
         ensures fails { OnErr result (SameShelf (H.seen shelf.old) (H.seen shelf.new)) × (IsErrOf result PageFault.NoRoom → ⊥) }
     {

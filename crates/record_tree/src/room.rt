@@ -1,9 +1,9 @@
 // Where a cell gets room.
-ghost use Rattle.std.specs.Prelude.{◌≡◌, ◌<◌, ◌≤◌, length, IfOk, IsErrOf, IsTrue};
+ghost use Rattle.std.specs.Prelude.{◌+◌, ◌≡◌, ◌<◌, ◌≤◌, length, IfOk, IsErrOf, IsTrue};
 ghost use Rattle.free_space.specs.Store.{IsTyped};
 ghost use Rattle.record_tree.specs.Changing.{ChangesSide, TakesSide};
 ghost use Rattle.record_tree.specs.Standing.{StandsForRecords};
-ghost use Rattle.record_tree.specs.Storing.{StoresCell, IsPast, IsStep, room_need};
+ghost use Rattle.record_tree.specs.Storing.{StoresCell, HasRoom, IsStep, room_need};
 
 use crate::Records;
 use hal_base::{PageFault, Shelf};
@@ -33,8 +33,9 @@ impl Records {
         requires content { length cell.now.content ≤ 2016 }
         requires step { IsStep room }
         ensures stored { IfOk result (StoresCell self.old self.new cell.now (H.seen shelf.old) (H.seen shelf.new)) }
-        ensures past { IfOk result (IsPast room self.old (H.seen shelf.old)) }
+        ensures room { IfOk result (HasRoom room self.old cell.now (H.seen shelf.old) (H.seen shelf.new)) }
         ensures no_room { IsErrOf result PageFault.NoRoom → length (H.seen shelf.old).free < room_need room }
+        ensures few { (H.seen shelf.new).fetches ≤ (H.seen shelf.old).fetches + 1 }
         ensures leaves { ChangesSide (room_need room) self.old (H.steady shelf.old shelf.new) (IsErrOf result PageFault.Failed) (H.seen shelf.old) (H.seen shelf.new) }
     {
         match room {

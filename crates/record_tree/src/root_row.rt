@@ -1,31 +1,21 @@
 // A new root: its cell is stored, and then a row of the root set leads to it.
-ghost use Rattle.std.specs.Prelude.{◌≡◌, ◌<◌, ◌+◌, None, length, IfOk, IsErrOf, IsTrue};
-ghost use Rattle.hal_schema.specs.SegType.{portion};
+ghost use Rattle.std.specs.Prelude.{◌≤◌, ◌≡◌, ◌<◌, ◌+◌, None, length, IfOk, IsErrOf, IsTrue};
 ghost use Rattle.record_walk.specs.Side.{key_of};
 ghost use Rattle.record_tree.specs.Changing.{ChangesSide, RowComes, RowIsIn, TakesSide, at_home};
 ghost use Rattle.record_tree.specs.Placing.{FitsType, IsNewRoot, unplaced};
 ghost use Rattle.record_tree.specs.Standing.{StandsForRecords};
-ghost use Rattle.record_tree.specs.Storing.{ComesAsRoot, IsPast, IsStep, room_need, segment_for};
+ghost use Rattle.record_tree.specs.Storing.{ComesAsRoot, RowHasRoom, IsStep, room_need, segment_for};
 
 use crate::Records;
 use crate::new_row::NewRow;
 use free_space::{no_side_cell_is_at_zero, others_leave_a_side_open};
 use hal_base::{Bytes, PageFault, Shelf};
-use hal_schema::{Schema, schemas_are_kept};
+use hal_schema::{Schema, portion, schemas_are_kept};
 use keyed_sets::rows_rise;
 use record_walk::{
     changed_sides, first_roots_are_inserted, new_segments_are_listed, roots_go_by_key,
     roots_go_by_rows, rows_come_and_go,
 };
-
-/// The bytes from a start that counts from 1, as far as the content has them.
-fn portion(content: &[u8], start: u16, bytes: u16) -> &[u8]
-    ensures { result.now ≡ portion start bytes content.now }
-{
-    let from = (start as usize).saturating_sub(1);
-    let to = from + bytes as usize;
-    &content[from.min(content.len())..to.min(content.len())]
-}
 
 /// The key of a root of this content.
 fn root_key<'a>(schema: &Schema, content: &'a [u8]) -> &'a [u8]
@@ -54,8 +44,9 @@ impl Records {
         requires step { IsStep new.room }
         requires root { IsNewRoot self.old (H.seen shelf.old) (segment_for new) }
         ensures comes { IfOk result (ComesAsRoot self.old self.new new (H.seen shelf.old) (H.seen shelf.new)) }
-        ensures past { IfOk result (IsPast new.room self.old (H.seen shelf.old)) }
+        ensures room { IfOk result (RowHasRoom new.room self.old (segment_for new) (H.seen shelf.old) (H.seen shelf.new)) }
         ensures no_room { IsErrOf result PageFault.NoRoom → length (H.seen shelf.old).free < room_need new.room + 1 }
+        ensures few { (H.seen shelf.new).fetches ≤ (H.seen shelf.old).fetches + 4 }
         ensures leaves { ChangesSide (room_need new.room + 1) self.old (H.steady shelf.old shelf.new) (IsErrOf result PageFault.Failed) (H.seen shelf.old) (H.seen shelf.new) }
     {
         changed_sides();

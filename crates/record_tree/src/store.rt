@@ -1,12 +1,12 @@
 // The cell of a new row.
-ghost use Rattle.std.specs.Prelude.{◌≡◌, ◌<◌, length, unwrap_or, IfOk, IsErrOf, IsTrue, ⊤};
+ghost use Rattle.std.specs.Prelude.{◌≤◌, ◌+◌, ◌≡◌, ◌<◌, length, unwrap_or, IfOk, IsErrOf, IsTrue, ⊤};
 ghost use Rattle.hal_base.specs.declared.place.Ilk.{Ilk as IlkOf};
 ghost use Rattle.free_space.specs.Map.{Alters};
 ghost use Rattle.free_space.specs.SideCalls.{StandsForSide, Holds, OnlyChangesAt, Turns};
 ghost use Rattle.record_tree.specs.Changing.{ChangesSide, TakesSide, home_name};
 ghost use Rattle.record_tree.specs.Placing.{FitsType};
 ghost use Rattle.record_tree.specs.Standing.{StandsForRecords};
-ghost use Rattle.record_tree.specs.Storing.{StoresCell, IsPast, IsStep, room_need, nameless, segment_for, row_cell, named_cell, set_name};
+ghost use Rattle.record_tree.specs.Storing.{StoresCell, RowHasRoom, IsStep, room_need, nameless, segment_for, row_cell, named_cell, set_name};
 
 use crate::Records;
 use crate::new_row::NewRow;
@@ -59,6 +59,7 @@ impl Records {
         ensures same { IfOk result (λ same. same ≡ at) }
         ensures named { IfOk result (λ _. Turns self.now.cells self.now.cells (H.seen shelf.old) (H.seen shelf.new) (Alters at (set_name (home_name self.now at)))) }
         ensures stands { StandsForSide self.now.cells (H.seen shelf.new) }
+        ensures few { (H.seen shelf.new).fetches ≤ (H.seen shelf.old).fetches + 1 }
         ensures leaves { OnlyChangesAt self.now.cells at (H.steady shelf.old shelf.new) (IsErrOf result PageFault.Failed) (H.seen shelf.old) (H.seen shelf.new) }
         ensures room { IsErrOf result PageFault.NoRoom → ⊥ }
     {
@@ -79,8 +80,9 @@ impl Records {
         requires fits { FitsType self.old.schema (segment_for new) }
         requires step { IsStep new.room }
         ensures stored { IfOk result (λ at. StoresCell self.old self.new (named_cell self.old new twin at) (H.seen shelf.old) (H.seen shelf.new) at) }
-        ensures past { IfOk result (IsPast new.room self.old (H.seen shelf.old)) }
+        ensures room { IfOk result (RowHasRoom new.room self.old (segment_for new) (H.seen shelf.old) (H.seen shelf.new)) }
         ensures no_room { IsErrOf result PageFault.NoRoom → length (H.seen shelf.old).free < room_need new.room }
+        ensures few { (H.seen shelf.new).fetches ≤ (H.seen shelf.old).fetches + 2 }
         ensures leaves { ChangesSide (room_need new.room) self.old (H.steady shelf.old shelf.new) (IsErrOf result PageFault.Failed) (H.seen shelf.old) (H.seen shelf.new) }
     {
         child_places();

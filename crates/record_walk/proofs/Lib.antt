@@ -20,5 +20,7 @@ pub mod FirstChildren
 pub mod ExampleChanges
 mod OrderedCodes
 pub mod LeadsOn
+mod LeadsExactly
+mod NextTwins
 pub mod LaterChildren
 mod RootsByKey

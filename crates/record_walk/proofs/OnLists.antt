@@ -127,7 +127,7 @@ span_is types (q ∷ front) p below back off deep starts =
     }
 
 -- all that is below a segment lies below its row
-below_lies : (types : List SegType) → Deepens types → (parent : Option Ilk) (s : Occurrence) (below : Chains) (next : Twins) → are_of types s.code (segment s below next) ≡ true
+pub below_lies : (types : List SegType) → Deepens types → (parent : Option Ilk) (s : Occurrence) (below : Chains) (next : Twins) → are_of types s.code (segment s below next) ≡ true
     → list_all (lies_below types (placed parent s)) (list_in (Some s.name) below) ≡ true
 below_lies types deepens parent s below next h =
     let t = typed types s.code s below next h in

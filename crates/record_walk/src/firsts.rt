@@ -1,7 +1,6 @@
 ghost use Rattle.record_walk.specs.Firsts.{FirstChildrenAreInserted, FirstRootsAreInserted, LaterChildrenAreInserted, LaterRootsAreInserted};
 
-use hal_schema::schemas_are_kept;
-use partition_select::root_order_is_total;
+use hal_schema::{root_order_is_total, schemas_are_kept};
 
 /// A new segment that came as a first child was inserted at its place.
 pub fn first_children_are_inserted()

@@ -44,7 +44,7 @@ pub use firsts::{
     later_roots_are_inserted,
 };
 pub use in_records::{entries_hang_in_records, sides_list_their_cells};
-pub use leads::pointers_lead_on;
+pub use leads::{children_are_first, pointers_lead_on, twins_are_next};
 pub use listed::{
     cuts_are_spans, new_segments_are_listed, new_twins_stand_behind_spans,
     replaced_content_is_listed,

@@ -39,6 +39,7 @@ fn the_laws_can_be_called(_rt: HostRuntime) {
     replaced_content_is_listed();
     homes_are_names();
     new_twins_are_inserted();
+    twins_are_next();
     seen_follows();
     rows_come_and_go();
     homes_are_listed();

@@ -6,8 +6,7 @@ ghost use Rattle.reorg_cursor.specs.Groups.{is_done, cursor_behind};
 
 use call_text::Command;
 use hal_base::{Cursor, Key, PartState};
-use hal_schema::{Schema, schemas_are_kept, select};
-use partition_select::anchor;
+use hal_schema::{Schema, anchor, schemas_are_kept, select};
 
 /// How many groups a unit of FINISH copies at most.
 const FINISH_GROUPS: u16 = 16;

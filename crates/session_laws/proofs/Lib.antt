@@ -1,3 +1,4 @@
 pub mod PathParts
 pub mod Surviving
 pub mod Standing
+pub mod Arriving

@@ -17,7 +17,7 @@ use Rattle.hal_schema.specs.Span.{is_deeper, without_span}
 abbrev pub OnPath : Type 0
 OnPath = List Row × Row
 
-append_paths : (types : List SegType) (path front back : List Row)
+pub append_paths : (types : List SegType) (path front back : List Row)
     → with_paths (row_level types) path (front ++ back) ≡ with_paths (row_level types) path front ++ with_paths (row_level types) (path_after (row_level types) path front) back
 append_paths types path [] back = refl
 append_paths types path (row ∷ front) back = ap (λ ps. (path_with (row_level types) path row, row) ∷ ps) (append_paths types (path_with (row_level types) path row) front back)
@@ -230,3 +230,9 @@ insert_parts schema rows new =
   where
     dropped : (after more : ℕ) → drop more (drop after rows) ≡ drop (after + more) rows
     dropped after more = drop-drop more after rows
+
+-- a new row stands with its path between the rows before its place and those behind
+pub insert_path : (schema : Schema) (rows : List Row) (new : Row)
+    → (let n = insertion_place schema rows new in let path = path_after (row_level schema.types) [] (take n rows) in let next = path_with (row_level schema.types) path new in
+    with_paths (row_level schema.types) [] (inserted schema rows new) ≡ with_paths (row_level schema.types) [] (take n rows) ++ (next, new) ∷ with_paths (row_level schema.types) next (drop n rows))
+insert_path schema rows new = append_paths schema.types [] (take (insertion_place schema rows new) rows) (new ∷ drop (insertion_place schema rows new) rows)

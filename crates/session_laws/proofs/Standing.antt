@@ -16,7 +16,8 @@ use Rattle.position_state.specs.View.{view_of, is_place_of}
 use Rattle.position_state.specs.Keep.{changed, kept_anchor, is_struck, kept_hold, kept_parent}
 use Rattle.position_state.specs.KeepLaws.{RowsArePlaces, IsOfBoth, AnchorsAreOfBoth}
 use Rattle.position_state.specs.Lawful.{is_row_of}
-use Rattle.session_laws.specs.Standing.{MayHappen, ChangesKeepAForest, KeptSessionsStand}
+use Rattle.session_laws.specs.Standing.{MayHappen, ChangesKeepAForest, KeptSessionsStand, NewRowsStand}
+use Rattle.session_laws.proofs.Arriving.{arrives}
 use Rattle.session_laws.proofs.Surviving.{Survive, cut_survives, insertion_survives, replacement_survives}
 
 pub changes_keep_a_forest : InsertionKeeps → ReplacementKeeps → CutKeeps → ChangesKeepAForest
@@ -78,3 +79,7 @@ kept_sessions_stand keep places both schema rows change name session h plain s =
       held = hold_stands schema change rows new session.held lives s.held;
       parent = parent_stands schema rows new session.parent lives s.parent;
     }
+
+pub new_rows_stand : ChangesKeepAForest → NewRowsStand
+new_rows_stand keep schema rows name parent root code content h =
+    arrives schema rows (record { name = name; code = code; parent = parent; content = content }) root h.forest (keep schema rows (Insert parent root code content) name h) (h.lawful name h.fresh).1

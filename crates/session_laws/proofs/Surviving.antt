@@ -111,6 +111,26 @@ back_apart : (ps qs : List OnPath) → all_pairs apart_paths (ps ++ qs) ≡ true
 back_apart [] qs h = h
 back_apart (p ∷ ps) qs h = back_apart ps qs (and_parts (list_all (apart_paths p) (ps ++ qs)) (all_pairs apart_paths (ps ++ qs)) h).1
 
+-- a row stands under one root alone
+one_root : (types : List SegType) (name : Ilk) (a b : List ℕ) (ps : List OnPath) → all_pairs apart_paths ps ≡ true → list_any (is_at types name a) ps ≡ true → list_any (is_at types name b) ps ≡ true → a ≡ b
+unfolding named apart_paths
+one_root types name a b [] h x y = absurd (true≢false (sym x))
+one_root types name a b (p ∷ ps) h x y =
+    let parts = and_parts (list_all (apart_paths p) ps) (all_pairs apart_paths ps) h in
+    by (or_cases (is_at types name a p) (list_any (is_at types name a) ps) x) (or_cases (is_at types name b p) (list_any (is_at types name b) ps) y) parts.0 (one_root types name a b ps parts.1)
+  where
+    by : (is_at types name a p ≡ true) ⊎ (list_any (is_at types name a) ps ≡ true) → (is_at types name b p ≡ true) ⊎ (list_any (is_at types name b) ps ≡ true) → list_all (apart_paths p) ps ≡ true
+        → (list_any (is_at types name a) ps ≡ true → list_any (is_at types name b) ps ≡ true → a ≡ b) → a ≡ b
+    by (inl e) (inl f) apart rest =
+        sym ((bytes_eq-Decides (root_key_of types p.0) a).0 (and_parts (same_name p.1.name name) (bytes_eq (root_key_of types p.0) a) e).1)
+        ∙ (bytes_eq-Decides (root_key_of types p.0) b).0 (and_parts (same_name p.1.name name) (bytes_eq (root_key_of types p.0) b) f).1
+    by (inl e) (inr f) apart rest = absurd (not_both name p ps apart (and_parts (same_name p.1.name name) (bytes_eq (root_key_of types p.0) a) e).0 (at_named types name b ps f))
+    by (inr e) (inl f) apart rest = absurd (not_both name p ps apart (and_parts (same_name p.1.name name) (bytes_eq (root_key_of types p.0) b) f).0 (at_named types name a ps e))
+    by (inr e) (inr f) apart rest = rest e f
+
+pub under_one_root : (schema : Schema) (rows : List Row) (name : Ilk) (a b : List ℕ) → IsTrue (is_forest schema rows) → is_under schema rows name a ≡ true → is_under schema rows name b ≡ true → a ≡ b
+under_one_root schema rows name a b forest x y = one_root schema.types name a b (paths_of schema.types rows) (paths_apart schema.types [] rows (forest_names schema rows forest)) x y
+
 -- ---- a deletion, and an insertion
 
 pub cut_survives : (schema : Schema) (rows : List Row) (name : Ilk) → IsTrue (is_forest schema rows) → Survive schema rows (without_span schema.types rows name)

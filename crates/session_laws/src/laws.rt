@@ -1,4 +1,4 @@
-ghost use Rattle.session_laws.specs.Standing.{ChangesKeepAForest, KeptSessionsStand};
+ghost use Rattle.session_laws.specs.Standing.{ChangesKeepAForest, KeptSessionsStand, NewRowsStand};
 
 use forest_laws::{cut_keeps, insertion_keeps, replacement_keeps};
 use position_state::{anchors_are_of_both, rows_are_places};
@@ -19,4 +19,11 @@ pub fn kept_sessions_stand()
     changes_keep_a_forest();
     rows_are_places();
     anchors_are_of_both();
+}
+
+/// A new row stands under the root that its insertion names, in the list that has it.
+pub fn new_rows_stand()
+    ensures { NewRowsStand }
+{
+    changes_keep_a_forest();
 }

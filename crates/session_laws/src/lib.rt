@@ -4,7 +4,7 @@
 
 mod laws;
 
-pub use laws::{changes_keep_a_forest, kept_sessions_stand};
+pub use laws::{changes_keep_a_forest, kept_sessions_stand, new_rows_stand};
 
 #[cfg(test)]
 mod tests;

@@ -5,4 +5,5 @@ use crate::*;
 fn the_laws_can_be_called(_rt: HostRuntime) {
     changes_keep_a_forest();
     kept_sessions_stand();
+    new_rows_stand();
 }

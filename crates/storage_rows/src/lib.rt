@@ -1,7 +1,8 @@
 //! Tests of what stands over sites in memory: the journal, and a volume over it.
 //!
 //! - `journal.rt`: the journal, stopped at each moment and opened again;
-//! - `volume.rt`: a volume over a journal over a site in memory.
+//! - `volume.rt`: a volume over a journal over a site in memory;
+//! - `two_parts.rt`: pages of two letters and two partitions, through a switch.
 #![tactic(auto)]
 
 ghost use Rattle.std.specs.Prelude.{◌≡◌, ◌++◌, IfOk, replicate, slice_set};
@@ -28,5 +29,7 @@ pub fn image_of(alloc: Global, gate: u8, behind: &[u8]) -> Result<Bytes, AllocEr
 
 #[cfg(test)]
 mod journal;
+#[cfg(test)]
+mod two_parts;
 #[cfg(test)]
 mod volume;

@@ -11,7 +11,7 @@ use hal_schema::first_schema;
 use std::alloc::{AllocError, Global};
 use std::test::Fail;
 
-const FIRST: usize = 8192;
+pub(crate) const FIRST: usize = 8192;
 
 const CELLS: SetId = SetId {
     part: 1,
@@ -19,7 +19,7 @@ const CELLS: SetId = SetId {
     letter: b'A',
 };
 
-fn zeros(alloc: Global) -> Result<Vec<u8>, AllocError> {
+pub(crate) fn zeros(alloc: Global) -> Result<Vec<u8>, AllocError> {
     vec![in alloc; 0; FIRST + 41 * BLOCK]
 }
 
@@ -32,7 +32,7 @@ fn image_of(alloc: Global, row: &[u8], first: &[u8], second: &[u8]) -> Result<By
     Ok(Bytes::from_vec(image))
 }
 
-fn put(image: &mut [u8], at: usize, bytes: &[u8]) {
+pub(crate) fn put(image: &mut [u8], at: usize, bytes: &[u8]) {
     for (to, from) in image.iter_mut().skip(at).zip(bytes) {
         *to = *from;
     }
@@ -62,7 +62,7 @@ fn read(
 
 const IDLE: &[u8] = b"\0\x01\0\x01AI\0\0";
 
-const PAUSED: &[u8] = b"\0\x01\0\x01AP\0\0";
+pub(crate) const PAUSED: &[u8] = b"\0\x01\0\x01AP\0\0";
 
 #[test]
 fn a_page_takes_the_free_block_of_least_number(rt: HostRuntime) -> Result<(), Fail> {
@@ -165,7 +165,7 @@ fn what_breaks_a_rule_is_said_of_the_lower_rule(rt: HostRuntime) -> Result<(), F
 
 // A site in memory that tells nothing, as a file does.
 #[derive(Drop)]
-struct Untold(MemSite);
+pub(crate) struct Untold(pub(crate) MemSite);
 
 impl Site for Untold {
     ghost image = { λ _. None };
@@ -203,7 +203,7 @@ impl Site for Untold {
     }
 }
 
-const OUTPUT: SetId = SetId {
+pub(crate) const OUTPUT: SetId = SetId {
     part: 1,
     number: 2,
     letter: b'M',

@@ -13,6 +13,9 @@ room-then first second le = record {
 pub room-same : (room : Option (ℕ × ℕ)) (faults : ℕ) (fits : ℕ × ℕ → Type 0) → HasRoom room room faults faults fits
 room-same room faults fits = record { stays = λ r is. (r, is, omega arith, omega arith); quiet = λ r is fit. refl }
 
+pub room-larger : {old new : Option (ℕ × ℕ)} {before now : ℕ} {end more : ℕ} → HasRoom old new before now (λ room. end ≤ room.0) → end ≤ more → HasRoom old new before now (λ room. more ≤ room.0)
+room-larger first le = record { stays = first.stays; quiet = λ room is fits. first.quiet room is (omega (arith, le, fits)) }
+
 module _ {S : Type 0} {image said : S → Option (List ℕ)} {moment : S → ℕ} {left_at : S → ℕ → List ℕ → List ℕ → Type 0} {disk_faults say_faults : S → ℕ} {room : S → Option (ℕ × ℕ)} where
   pub reads_none : (a : S) → OnlyReads image said moment left_at disk_faults say_faults room a a
   reads_none a = record { image_stays = refl; said_stays = refl; stops = not_yet (moment a) (left_at a) _; later = omega arith; says = refl; fits = room-same (room a) (disk_faults a) _ }

@@ -1,3 +1,9 @@
 pub mod Calls
+pub mod EmptyVolumes
 pub mod Fronts
 pub mod OneSchema
+pub mod Padding
+pub mod ShortDefinitions
+pub mod ShortTexts
+pub mod Shortness
+pub mod Writing

@@ -1,6 +1,6 @@
 -- Which schema an image is the volume of: soundness rule 1, in its part on the head and the definition. The bytes of
 -- the gate's block are not looked at here.
-use Rattle.std.specs.Prelude.{◌≡◌, ℕ, ◌*◌, ◌≤◌, List, length, take, drop}
+use Rattle.std.specs.Prelude.{◌≡◌, ℕ, ◌*◌, ◌^◌, ◌<◌, ◌≤◌, List, length, take, drop}
 use Rattle.hal_schema.specs.declared.schema.Schema.{Schema}
 use Rattle.definition_text.specs.Builds.{IsDefinitionOf}
 use Rattle.volume_head.specs.Head.{canonical_text, blocks_for, in_blocks, head_of, most_text}
@@ -28,3 +28,7 @@ BreaksFront image = (schema : Schema) → IsVolumeOf schema image → ⊥
 -- an image is the volume of one schema at most
 abbrev pub AreOfOneSchema : Type 0
 AreOfOneSchema = (image : List ℕ) (a b : Schema) → IsVolumeOf a image → IsVolumeOf b image → a ≡ b
+
+-- the canonical text of a schema is short enough for the head; its two free numbers are of 32 bits
+abbrev pub AreShort : Type 0
+AreShort = (schema : Schema) → schema.anch < 2 ^ 32 → schema.rbn < 2 ^ 32 → length (canonical_text schema) ≤ most_text

@@ -1,4 +1,5 @@
 pub mod Calls
 pub mod Definition
+pub mod Empty
 pub mod Head
 pub mod Reading

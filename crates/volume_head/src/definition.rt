@@ -9,6 +9,7 @@ ghost use Rattle.definition_text.specs.Builds.{IsDefinitionOf};
 ghost use Rattle.volume_head.specs.Head.{canonical_text, most_text};
 ghost use Rattle.volume_head.specs.Definition.{IsCanonical, IsNoCanonical};
 
+use crate::laws::definitions_are_short;
 use definition_text::{TextFault, print_dbd, print_partitions, read_dbd, read_partitions};
 use hal_base::{Bytes, Memory};
 use hal_schema::{RawParts, RawSchema, Schema, SchemaFault};
@@ -16,8 +17,12 @@ use std::alloc::Global;
 
 /// The canonical text of a schema: its DBD text, and its partition file behind it.
 pub fn canonical_text(alloc: Global, schema: &Schema) -> Result<Bytes, Memory>
-    ensures { IfOk result (λ text. IsCanonical text schema.now) }
+    ensures text { IfOk result (λ text. IsCanonical text schema.now) }
+    ensures short { IfOk result (λ text. length text ≤ most_text) }
 {
+    // Read for their range alone.
+    let (_anch, _rbn) = (schema.anch, schema.rbn);
+    definitions_are_short();
     let mut text = print_dbd(alloc, schema)?;
     let parts = print_partitions(alloc, schema)?;
     text.append(parts.as_slice())?;

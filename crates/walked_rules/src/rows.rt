@@ -1,7 +1,6 @@
 ghost use Rattle.walked_rules.specs.Laws.{WalkedNamesDiffer, WalkedPartsKeepRule4, WalkedPartsKeepRule7, WalkedRowsStand, WalkedSidesAreKept};
 
-use hal_schema::schemas_are_kept;
-use partition_select::root_order_is_total;
+use hal_schema::{root_order_is_total, schemas_are_kept};
 use record_walk::{parents_stand_first, siblings_rise, sides_list_their_cells};
 
 /// The rows of a walked partition are exactly the segments that stand, each at its home.

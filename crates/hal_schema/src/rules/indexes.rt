@@ -2,7 +2,7 @@ ghost use Rattle.std.specs.Prelude.{false, ◌+◌, nat_le, ◌≡◌, ◌<◌, 
 ghost use Rattle.std.specs.List.{list_all, list_any};
 ghost use Rattle.std.specs.Option.{option_map_or};
 ghost use Rattle.std.specs.Str.{bytes_eq};
-ghost use Rattle.hal_schema.specs.Lawful.{fields_are_kept, index_is_kept, is_key_portion, is_within, parents_are_before, same_field};
+ghost use Rattle.hal_schema.specs.Lawful.{fields_are_kept, index_is_kept, is_key_portion, is_within, lie_in_source, parents_are_before, same_field};
 ghost use Rattle.hal_schema.specs.Places.{statement, when};
 ghost use Rattle.hal_schema.specs.Raw.{code_named, fields_named, index_of};
 ghost use Rattle.hal_schema.specs.Rules.{indexes_broken};
@@ -148,7 +148,7 @@ fn fields_are_kept(types: &[SegType], i: &IndexDef) -> bool
 }
 
 fn fields_are_among(fields: &[Field], path: u32, i: &IndexDef) -> bool
-    ensures { result ≡ (list_all (λ f. not (is_key_portion f.name) && list_any (same_field f) fields.now) i.now.search && list_all (λ f. is_key_portion f.name && list_any (same_field f) fields.now && is_within path f.start f.bytes) i.now.subseq) }
+    ensures { result ≡ lie_in_source path fields.now i.now }
 {
     search_is_kept(fields, i.search.as_slice()) && subseq_is_kept(fields, path, i.subseq.as_slice())
 }

@@ -1,6 +1,7 @@
 use Rattle.std.proofs.Common.{◌≡◌, ℕ, ◌+◌, ◌≤◌, List, Option, sym, ap, ◌∙◌, arith}
 use Rattle.std.specs.Prelude.{IfSome}
 use Rattle.std.specs.Option.{option_map}
+use Rattle.std.proofs.lemmas.Bool.{true≢false}
 use Rattle.hal_schema.specs.declared.row.Row.{Row}
 use Rattle.dli_calls.specs.declared.decision.Decision.{Decision}
 use Rattle.dli_calls.specs.Decided.{decision_of, found}
@@ -9,12 +10,15 @@ use Rattle.call_gets.specs.declared.scan.Met.{Met}
 use Rattle.call_gets.specs.Keyed.{keyed_path, rows_under}
 use Rattle.call_gets.specs.Scan.{LooksWithin, on_its_path, plain_view}
 use Rattle.call_gets.specs.Shown.{given}
-use Rattle.call_gets.proofs.Deciding.{only_get, decided_text, decided_content, decided_high, decided_none, decided_found}
-use Rattle.call_gets.proofs.Finding.{if_ok}
+use Rattle.call_gets.proofs.Deciding.{only_get, decided_text, decided_content, decided_high, decided_none, decided_found, not_unseen}
+use Rattle.call_gets.proofs.Finding.{if_ok, ok_any}
 use Rattle.call_gets.proofs.ByKey.{keyed_unique}
 use Rattle.call_gets.proofs.ByRecord.{path_is_unique, within_few}
 use Rattle.call_gets.proofs.Giving.{given_none, given_some, found_alike}
 use Rattle.call_gets.proofs.Looking.{where_told, told_at}
+use Rattle.call_gets.specs.Below.{IsWithinParent}
+use Rattle.call_gets.specs.Passed.{IsWithinPassed}
+use Rattle.call_gets.proofs.Counting.{parent_few, parent_more, passed_more, passed_none}
 use Rattle.call_gets.proofs.answer.decide_get.Goals as goal
 
 pub returns-in-Some-clause-decided : goal.returns-in-Some-clause-decided
@@ -116,3 +120,61 @@ returns-then-is_some-clause-within g c = let a = g.W.Walk.seen c.args.walk.now i
 
 pub returns-then-branch-clause-within : goal.returns-then-branch-clause-within
 returns-then-branch-clause-within g c = let a = g.W.Walk.seen c.args.walk.now in within_few c.args.schema.now c.args.call.now a a (omega arith)
+
+-- a GNP looks at its parent's record
+
+pub returns-in_ok-refused-in-None-clause-below : goal.returns-in_ok-refused-in-None-clause-below
+returns-in_ok-refused-in-None-clause-below g c =
+    let b = g.W.Walk.seen c.got.new.walk in
+    parent_more c.args.schema.now c.args.session.now c.args.call.now (g.W.Walk.seen c.args.walk.now) b b c.in_ok-got.ensures.below (omega arith)
+
+pub returns-in-Some-2-clause-below : goal.returns-in-Some-2-clause-below
+returns-in-Some-2-clause-below g c =
+    let a = g.W.Walk.seen c.args.walk.now in
+    let new = g.W.Walk.seen c.found.new.walk in
+    ok_any c.found.result (λ d. IsWithinParent 6 c.args.schema.now c.args.session.now c.args.call.now a new)
+    (λ d. parent_more c.args.schema.now c.args.session.now c.args.call.now a (g.W.Walk.seen c.got.new.walk) new c.in_ok-got.ensures.below c.found.ensures.few)
+
+pub returns-in-Some-clause-below : goal.returns-in-Some-clause-below
+returns-in-Some-clause-below g c = let a = g.W.Walk.seen c.args.walk.now in parent_few 6 c.args.schema.now c.args.session.now c.args.call.now a a (omega arith)
+
+pub returns-then-is_some-clause-below : goal.returns-then-is_some-clause-below
+returns-then-is_some-clause-below g c = let a = g.W.Walk.seen c.args.walk.now in parent_few 6 c.args.schema.now c.args.session.now c.args.call.now a a (omega arith)
+
+pub returns-then-branch-clause-below : goal.returns-then-branch-clause-below
+returns-then-branch-clause-below g c = let a = g.W.Walk.seen c.args.walk.now in parent_few 6 c.args.schema.now c.args.session.now c.args.call.now a a (omega arith)
+
+-- a GU and a GN look at what they pass
+
+pub returns-in_ok-refused-in-None-clause-passing : goal.returns-in_ok-refused-in-None-clause-passing
+returns-in_ok-refused-in-None-clause-passing g c =
+    let b = g.W.Walk.seen c.got.new.walk in
+    passed_more c.args.schema.now c.args.session.now c.args.call.now (g.W.Walk.seen c.args.walk.now) b b c.in_ok-got.ensures.passing (omega arith)
+
+pub returns-in-Some-2-clause-passing : goal.returns-in-Some-2-clause-passing
+returns-in-Some-2-clause-passing g c =
+    let a = g.W.Walk.seen c.args.walk.now in
+    let new = g.W.Walk.seen c.found.new.walk in
+    ok_any c.found.result (λ d. IsWithinPassed 4 c.args.schema.now c.args.session.now c.args.call.now a new)
+    (λ d. passed_more c.args.schema.now c.args.session.now c.args.call.now a (g.W.Walk.seen c.got.new.walk) new c.in_ok-got.ensures.passing c.found.ensures.few)
+
+pub returns-in-Some-clause-passing : goal.returns-in-Some-clause-passing
+returns-in-Some-clause-passing g c = let a = g.W.Walk.seen c.args.walk.now in passed_none c.args.schema.now c.args.session.now c.args.call.now a a (omega arith)
+
+pub returns-then-is_some-clause-passing : goal.returns-then-is_some-clause-passing
+returns-then-is_some-clause-passing g c = let a = g.W.Walk.seen c.args.walk.now in passed_none c.args.schema.now c.args.session.now c.args.call.now a a (omega arith)
+
+pub returns-then-branch-clause-passing : goal.returns-then-branch-clause-passing
+returns-then-branch-clause-passing g c = let a = g.W.Walk.seen c.args.walk.now in passed_none c.args.schema.now c.args.session.now c.args.call.now a a (omega arith)
+
+-- a call that comes to a look is not refused unseen
+
+pub returns-in_ok-refused-in-None-clause-unseen : goal.returns-in_ok-refused-in-None-clause-unseen
+returns-in_ok-refused-in-None-clause-unseen g c = λ e. absurd (true≢false (sym e ∙ not_unseen c.args.schema.now c.args.session.now c.args.call.now
+    (record { only = only_get c.args.call.now c.requires.get; plain = c.requires.plain; text = sym c.text_refusal.ensures ∙ c.in_default.is })
+    (sym c.is_some.ensures ∙ c.if-is_some.false) (sym c.in_ok-asks_for_high_root.ensures ∙ c.if-branch.false)))
+
+pub returns-in-Some-2-clause-unseen : goal.returns-in-Some-2-clause-unseen
+returns-in-Some-2-clause-unseen g c = λ e. absurd (true≢false (sym e ∙ not_unseen c.args.schema.now c.args.session.now c.args.call.now
+    (record { only = only_get c.args.call.now c.requires.get; plain = c.requires.plain; text = sym c.text_refusal.ensures ∙ c.in_default.is })
+    (sym c.is_some.ensures ∙ c.if-is_some.false) (sym c.in_ok-asks_for_high_root.ensures ∙ c.if-branch.false)))

@@ -1,4 +1,4 @@
-use Rattle.std.proofs.Common.{◌≡◌, ℕ, ◌+◌, ◌==◌, true, [], ◌∷◌, List, length, None, sym, ap, subst, ◌∙◌, arith}
+use Rattle.std.proofs.Common.{◌≡◌, ℕ, ◌+◌, ◌≤◌, ◌==◌, true, [], ◌∷◌, List, length, None, Some, sym, ap, subst, ◌∙◌, arith}
 use Rattle.std.specs.Prelude.{find, is_some, IfSome}
 use Rattle.std.specs.Option.{option_map}
 use Rattle.std.proofs.lemmas.Bool.{true≢false}
@@ -12,11 +12,12 @@ use Rattle.position_state.specs.Looks.{root_of_key}
 use Rattle.dli_calls.specs.Meets.{meets, on_paths}
 use Rattle.dli_calls.specs.Gets.{paths_behind}
 use Rattle.call_gets.specs.Keyed.{keyed_path, met_in_record, rows_under}
-use Rattle.call_gets.specs.Scan.{IsGot, LooksWithin, on_its_path, plain_view}
+use Rattle.call_gets.specs.Passed.{LooksClimbing, passed}
+use Rattle.call_gets.specs.Scan.{IsGot, LooksWithin, on_its_path, path_of, plain_view}
 use Rattle.call_gets.specs.Shown.{IsGiven, given}
 use Rattle.call_gets.proofs.ByRecord.{found_in_record, none_told, path_has_ssa, some_told, within_few}
 use Rattle.call_gets.proofs.Looking.{where_told, told_at, differ_told, forest_at}
-use Rattle.call_gets.proofs.Finding.{if_ok, front_stands}
+use Rattle.call_gets.proofs.Finding.{if_ok, front_stands, ok_any}
 use Rattle.call_gets.proofs.ByKey.{found_by_call}
 use Rattle.call_gets.proofs.gets.first_of_all.Goals as goal
 
@@ -109,3 +110,33 @@ returns-in_err-key-clause-within g c = let a = g.W.Walk.seen c.args.walk.now in 
 
 pub returns-in_err-keyed_path-clause-within : goal.returns-in_err-keyed_path-clause-within
 returns-in_err-keyed_path-clause-within g c = let a = g.W.Walk.seen c.args.walk.now in within_few c.args.schema.now c.args.call.now a a (omega arith)
+
+-- else it looks at what it passes
+
+pub returns-in-Some-clause-passing : goal.returns-in-Some-clause-passing
+returns-in-Some-clause-passing g c =
+    let a = g.W.Walk.seen c.args.walk.now in
+    let new = g.W.Walk.seen c.root_with.new.walk in
+    let schema = c.args.schema.now in
+    let ssas = c.args.call.now.ssas in
+    ok_any c.root_with.result (λ met. keyed_path schema c.args.call.now ≡ None → LooksClimbing 3 schema ssas Front a new)
+    (λ met off h. where_told a.forest (λ (rows : List Row). let view = plain_view schema rows in new.looks ≤ a.looks + (3 + length (path_of Front view) + passed schema view ssas (paths_behind Front (on_paths view)))) (λ rows k. omega (arith, c.root_with.ensures.few)))
+
+pub returns-in-None-clause-passing : goal.returns-in-None-clause-passing
+returns-in-None-clause-passing g c =
+    let a = g.W.Walk.seen c.args.walk.now in
+    let new = g.W.Walk.seen c.first_behind.new.walk in
+    let schema = c.args.schema.now in
+    let call = c.args.call.now in
+    if_ok c.first_behind.result (λ met. LooksClimbing 3 schema c.as_slice-ssas.result.now Front a new) (λ met. keyed_path schema call ≡ None → LooksClimbing 3 schema call.ssas Front a new)
+    (λ met few off. subst (λ (ssas : List Ssa). LooksClimbing 3 schema ssas Front a new) c.as_slice-ssas.ensures few)
+    c.first_behind.ensures.passing
+
+pub returns-in-Some-2-clause-passing : goal.returns-in-Some-2-clause-passing
+returns-in-Some-2-clause-passing g c =
+    let a = g.W.Walk.seen c.args.walk.now in
+    let new = g.W.Walk.seen c.first_in_record.new.walk in
+    let schema = c.args.schema.now in
+    let call = c.args.call.now in
+    ok_any c.first_in_record.result (λ met. keyed_path schema call ≡ None → LooksClimbing 3 schema call.ssas Front a new)
+    (λ met off. let some : keyed_path schema call ≡ Some c.in-Some-2.key = sym c.in_ok-keyed_path.ensures ∙ c.in-Some-2.is in let no : ⊥ = cc in absurd no)

@@ -1,19 +1,24 @@
-use Rattle.std.proofs.Common.{◌≡◌, ℕ, ◌+◌, ◌==◌, Bool, true, false, ◌&&◌, ◌||◌, length, List, Option, None, refl, sym, ap, subst, ◌∙◌, arith}
+use Rattle.std.proofs.Common.{◌≡◌, ℕ, ◌+◌, ◌*◌, ◌==◌, Bool, true, false, cond, ◌&&◌, ◌||◌, length, List, Option, None, refl, sym, ap, subst, ◌∙◌, arith}
 use Rattle.std.specs.Prelude.{find, IfSome}
 use Rattle.std.specs.Option.{option_map}
-use Rattle.std.proofs.lemmas.Bool.{true≢false, and_parts, or_from}
+use Rattle.std.proofs.lemmas.Bool.{true≢false, and_parts, or_from, or_parts}
 use Rattle.hal_schema.specs.declared.row.Row.{Row}
 use Rattle.call_text.specs.declared.line.Ssa.{Ssa}
+use Rattle.position_state.specs.declared.session.Anchor.{Anchor}
+use Rattle.position_state.specs.declared.session.Anchor.TheVariants.{Front}
 use Rattle.position_state.specs.View.{view_of, is_place_of}
 use Rattle.dli_calls.specs.Meets.{meets, on_paths}
 use Rattle.dli_calls.specs.Gets.{got, is_next, is_unique, paths_behind}
+use Rattle.call_gets.specs.Below.{IsWithinParent, rows_around}
 use Rattle.call_gets.specs.Keyed.{keyed_path, rows_under}
+use Rattle.call_gets.specs.Passed.{IsWithinPassed, LooksClimbing}
 use Rattle.call_gets.specs.Scan.{IsGot, LooksWithin, met_below, on_its_path, plain_view}
 use Rattle.call_gets.specs.Shown.{IsGiven, given}
 use Rattle.call_gets.proofs.Looking.{where_told, told_at, stands_at}
-use Rattle.call_gets.proofs.Finding.{if_ok, got_unique, got_next, got_below, got_nowhere}
+use Rattle.call_gets.proofs.Finding.{if_ok, ok_any, got_unique, got_next, got_below, got_nowhere}
 use Rattle.call_gets.proofs.ByKey.{not_keyed}
-use Rattle.call_gets.proofs.ByRecord.{none_told, not_path, within_few}
+use Rattle.call_gets.proofs.ByRecord.{none_told, not_path, some_told, within_few}
+use Rattle.call_gets.proofs.Counting.{parent_few}
 use Rattle.call_gets.proofs.gets.got.Goals as goal
 
 pub first_behind-requires-clause-there : goal.first_behind-requires-clause-there
@@ -124,3 +129,69 @@ returns-in-Some-clause-within g c =
     none_told (keyed_path c.args.schema.now c.args.call.now)
     (λ (key : List ℕ). LooksWithin c.args.call.now.ssas (g.W.Walk.seen c.args.walk.now) (g.W.Walk.seen c.first_below.new.walk) (λ rows. 2 + rows_under key (plain_view c.args.schema.now rows)))
     (not_path c.args.schema.now c.args.call.now (sym c.is_unique.ensures ∙ c.if-is_unique.false))
+
+-- a GNP looks at its parent's record
+
+pub returns-then-is_unique-clause-below : goal.returns-then-is_unique-clause-below
+returns-then-is_unique-clause-below g c =
+    let call = c.args.call.now in
+    ok_any c.first_of_all.result (λ met. IsWithinParent 5 c.args.schema.now c.args.session.now call (g.W.Walk.seen c.args.walk.now) (g.W.Walk.seen c.first_of_all.new.walk))
+    (λ met e. absurd (true≢false (sym (sym c.is_unique.ensures ∙ c.if-is_unique.true) ∙ (or_parts (is_unique call) (is_next call) e).0)))
+
+pub returns-then-is_next-clause-below : goal.returns-then-is_next-clause-below
+returns-then-is_next-clause-below g c =
+    let call = c.args.call.now in
+    ok_any c.first_behind.result (λ met. IsWithinParent 5 c.args.schema.now c.args.session.now call (g.W.Walk.seen c.args.walk.now) (g.W.Walk.seen c.first_behind.new.walk))
+    (λ met e. absurd (true≢false (sym (sym c.is_next.ensures ∙ c.if-is_next.true) ∙ (or_parts (is_unique call) (is_next call) e).1)))
+
+pub returns-in-None-clause-below : goal.returns-in-None-clause-below
+returns-in-None-clause-below g c =
+    let a = g.W.Walk.seen c.args.walk.now in parent_few 5 c.args.schema.now c.args.session.now c.args.call.now a a (omega arith)
+
+pub returns-in-Some-clause-below : goal.returns-in-Some-clause-below
+returns-in-Some-clause-below g c =
+    let a = g.W.Walk.seen c.args.walk.now in
+    let new = g.W.Walk.seen c.first_below.new.walk in
+    let schema = c.args.schema.now in
+    let parent = c.in-Some.parent in
+    if_ok c.first_below.result (λ met. LooksWithin c.as_slice-ssas.result.now a new (λ rows. 5 + 2 * rows_around parent (plain_view schema rows)))
+    (λ met. IsWithinParent 5 schema c.args.session.now c.args.call.now a new)
+    (λ met few e. some_told c.args.session.now.parent parent (λ parent. LooksWithin c.args.call.now.ssas a new (λ rows. 5 + 2 * rows_around parent (plain_view schema rows))) c.in-Some.is
+    (subst (λ (ssas : List Ssa). LooksWithin ssas a new (λ rows. 5 + 2 * rows_around parent (plain_view schema rows))) c.as_slice-ssas.ensures few))
+    c.first_below.ensures.few
+
+-- a GU and a GN look at what they pass
+
+pub returns-then-is_unique-clause-passing : goal.returns-then-is_unique-clause-passing
+returns-then-is_unique-clause-passing g c =
+    let a = g.W.Walk.seen c.args.walk.now in
+    let new = g.W.Walk.seen c.first_of_all.new.walk in
+    let schema = c.args.schema.now in
+    let call = c.args.call.now in
+    let session = c.args.session.now in
+    if_ok c.first_of_all.result (λ met. keyed_path schema call ≡ None → LooksClimbing 3 schema call.ssas Front a new) (λ met. IsWithinPassed 3 schema session call a new)
+    (λ met few e off. subst (λ (at : Anchor). LooksClimbing 3 schema call.ssas at a new) (ap (λ b. cond b Front session.anchor) (sym (sym c.is_unique.ensures ∙ c.if-is_unique.true))) (few off))
+    c.first_of_all.ensures.passing
+
+pub returns-then-is_next-clause-passing : goal.returns-then-is_next-clause-passing
+returns-then-is_next-clause-passing g c =
+    let a = g.W.Walk.seen c.args.walk.now in
+    let new = g.W.Walk.seen c.first_behind.new.walk in
+    let schema = c.args.schema.now in
+    let call = c.args.call.now in
+    let session = c.args.session.now in
+    if_ok c.first_behind.result (λ met. LooksClimbing 3 schema c.as_slice-ssas.result.now session.anchor a new) (λ met. IsWithinPassed 3 schema session call a new)
+    (λ met few e off. subst (λ (at : Anchor). LooksClimbing 3 schema call.ssas at a new) (ap (λ b. cond b Front session.anchor) (sym (sym c.is_unique.ensures ∙ c.if-is_unique.false)))
+    (subst (λ (ssas : List Ssa). LooksClimbing 3 schema ssas session.anchor a new) c.as_slice-ssas.ensures few))
+    c.first_behind.ensures.passing
+
+pub returns-in-None-clause-passing : goal.returns-in-None-clause-passing
+returns-in-None-clause-passing g c = λ e.
+    let call = c.args.call.now in
+    absurd (true≢false (sym e ∙ or_from (is_unique call) (is_next call) (sym c.is_unique.ensures ∙ c.if-is_unique.false) (sym c.is_next.ensures ∙ c.if-is_next.false)))
+
+pub returns-in-Some-clause-passing : goal.returns-in-Some-clause-passing
+returns-in-Some-clause-passing g c =
+    let call = c.args.call.now in
+    ok_any c.first_below.result (λ met. IsWithinPassed 3 c.args.schema.now c.args.session.now call (g.W.Walk.seen c.args.walk.now) (g.W.Walk.seen c.first_below.new.walk))
+    (λ met e. absurd (true≢false (sym e ∙ or_from (is_unique call) (is_next call) (sym c.is_unique.ensures ∙ c.if-is_unique.false) (sym c.is_next.ensures ∙ c.if-is_next.false))))

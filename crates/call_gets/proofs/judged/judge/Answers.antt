@@ -1,10 +1,11 @@
-use Rattle.std.proofs.Common.{◌≡◌, ◌+◌, true, List, [], ◌∷◌, ◌++◌, drop, sym, ◌∙◌, arith}
+use Rattle.std.proofs.Common.{◌≡◌, ◌+◌, true, List, [], ◌∷◌, ◌++◌, drop, sym, subst, ◌∙◌, arith}
+use Rattle.std.proofs.lemmas.List.{drop_all}
 use Rattle.hal_schema.specs.declared.row.Row.{Row}
 use Rattle.position_state.specs.declared.walk.WalkFault.TheVariants.{Failed}
 use Rattle.call_gets.specs.declared.judged.Verdict.TheVariants.{Closed}
 use Rattle.call_gets.specs.Scan.{IsOn, IsVerdict, plain_view}
 use Rattle.call_gets.proofs.Judging.{AllSoFar, closed_on, none_last, so_far}
-use Rattle.call_gets.proofs.Leading.{closed_by_type}
+use Rattle.call_gets.proofs.Leading.{closed_by_type, judged_at_last}
 use Rattle.call_gets.proofs.Listing.{left_is}
 use Rattle.call_gets.proofs.Looking.{on_then, on_as, ok_not_err, where_told, told_at, told_after}
 use Rattle.call_gets.proofs.judged.judge.Goals as goal
@@ -62,3 +63,19 @@ returns-then-not-may_lead-clause-verdict g c =
     let schema = c.args.schema.now in
     where_told a.forest (λ (rows : List Row). IsVerdict schema (plain_view schema rows) c.args.ssas.now (c.args.above.now ++ c.args.spot.now ∷ []) c.args.spot.now Closed)
     (λ rows e. closed_by_type schema (c.schemas_are_kept.ensures schema) (plain_view schema rows) c.args.ssas.now c.args.above.now c.args.spot.now (sym c.may_lead.ensures ∙ c.if-not-may_lead.true))
+
+-- at an element of the last SSA's type nothing is left open
+
+pub returns-then-is_last-clause-verdict : goal.returns-then-is_last-clause-verdict
+returns-then-is_last-clause-verdict g c =
+    let a = g.W.Walk.seen c.args.walk.now in
+    let schema = c.args.schema.now in
+    let ssas = c.args.ssas.now in
+    let path = c.args.above.now ++ c.args.spot.now ∷ [] in
+    let i = c.loop-ssa.invariant in
+    let none : drop c.loop-ssa.ssa-index ssas ≡ [] = drop_all c.loop-ssa.ssa-index ssas (omega (arith, c.loop-ssa-test.false)) in
+    where_told a.forest (λ (rows : List Row). IsVerdict schema (plain_view schema rows) ssas path c.args.spot.now c.at_last.result)
+    (λ rows e. judged_at_last schema (c.schemas_are_kept.ensures schema) (plain_view schema rows) ssas c.args.above.now c.args.spot.now c.loop-ssa.all c.at_last.result
+    (subst (AllSoFar schema (plain_view schema rows) ssas path c.loop-ssa.all) none
+    (told_at a.forest rows (λ (r : List Row). AllSoFar schema (plain_view schema r) ssas path c.loop-ssa.all (drop c.loop-ssa.ssa-index ssas)) e i.all))
+    (sym c.is_last.ensures ∙ c.if-is_last.true) c.at_last.ensures)

@@ -1,7 +1,8 @@
 use Rattle.std.proofs.Common.{◌<◌, ◌≤◌, length, IsTrue, drop, Err, sym, ap, subst, ◌∙◌}
 use Rattle.std.proofs.lemmas.Result.{IfOk-weaker, IfOk-at_ok}
 use Rattle.hal_schema.specs.Named.{dbd_is_named, parts_are_named}
-use Rattle.dbd_reader.specs.Definition.{meaning_of, Says}
+use Rattle.dbd_reader.specs.Definition.{meaning_of}
+use Rattle.hal_schema.specs.Reading.{Says}
 use Rattle.partition_reader.specs.Partitions.{partitions_of}
 use Rattle.hal_desk.specs.Define.{answer_of}
 use Rattle.hal_desk.proofs.Commands.{rest_from, told, told_ok, text_broken, file_broken, both_read}

@@ -13,7 +13,7 @@ returns-in-Err-clause-did g c = λ at s.
       above_is = rw c.parent_code.ensures at c.climb-below.ensures.above;
       below_is = rw c.parent_code.ensures at c.climb-below.ensures.below;
       parent_is = c.name-parent.ensures;
-      key_is = rw (c.key_of.ensures, c.as_slice.ensures) at c.in_ok-key.ensures;
+      key_is = rw (c.key_in.ensures, c.as_slice.ensures) at c.in_ok-key.ensures;
     } in
     judged_err c.args.schema.now (g.R.RowTaker.seen c.args.into.now) (g.R.RowTaker.seen c.judge.new.into) c.args.path.now c.climb-below.new.self at c.args.said.now.code c.args.said.now.content
     c.climb-below.result c.climb-below.new.self c.name-parent.result c.in_ok-key.key c.in-Err.why (c.schemas_are_kept.ensures c.args.schema.now) s way c.in-Err.ensures.judges c.in-Err.ensures.looks
@@ -24,7 +24,7 @@ take-requires-clause-fits g c =
       above_is = rw c.parent_code.ensures at c.climb-below.ensures.above;
       below_is = rw c.parent_code.ensures at c.climb-below.ensures.below;
       parent_is = c.name-parent.ensures;
-      key_is = rw (c.key_of.ensures, c.as_slice.ensures) at c.in_ok-key.ensures;
+      key_is = rw (c.key_in.ensures, c.as_slice.ensures) at c.in_ok-key.ensures;
     } in
     let e : c.args.schema.now ≡ g.R.RowTaker.schema c.judge.new.into = sym (c.judge.ensures.schema ∙ c.requires.same) in
     subst (λ (s : Schema). IfSome (g.R.RowTaker.seen c.judge.new.into).rows (λ rows. IsTrue (may_be_taken s rows (coming c.name-parent.result c.args.said.now.code c.args.said.now.content)))) e
@@ -37,7 +37,7 @@ returns-in-Ok-clause-did g c = λ at s.
       above_is = rw c.parent_code.ensures at c.climb-below.ensures.above;
       below_is = rw c.parent_code.ensures at c.climb-below.ensures.below;
       parent_is = c.name-parent.ensures;
-      key_is = rw (c.key_of.ensures, c.as_slice.ensures) at c.in_ok-key.ensures;
+      key_is = rw (c.key_in.ensures, c.as_slice.ensures) at c.in_ok-key.ensures;
     } in
     let takes = rw (c.judge.ensures.schema ∙ c.requires.same) at c.in-Ok.ensures.takes in
     placed_ok c.args.schema.now (g.R.RowTaker.seen c.args.into.now) (g.R.RowTaker.seen c.judge.new.into) (g.R.RowTaker.seen c.take.new.self) c.args.path.now c.push.new.self at c.args.said.now.code c.args.said.now.content
@@ -49,7 +49,7 @@ returns-clause-did g c = λ at s.
       above_is = rw c.parent_code.ensures at c.climb-below.ensures.above;
       below_is = rw c.parent_code.ensures at c.climb-below.ensures.below;
       parent_is = c.name-parent.ensures;
-      key_is = rw (c.key_of.ensures, c.as_slice.ensures) at c.in_ok-key.ensures;
+      key_is = rw (c.key_in.ensures, c.as_slice.ensures) at c.in_ok-key.ensures;
     } in
     let e : g.R.RowTaker.schema c.judge.new.into ≡ c.args.schema.now = c.judge.ensures.schema ∙ c.requires.same in
     let takes = subst (λ (s : Schema). Takes s (coming c.name-parent.result c.args.said.now.code c.args.said.now.content) (g.R.RowTaker.seen c.judge.new.into) (g.R.RowTaker.seen c.take.new.self) (Err c.in-Err-take.why)) e c.in-Err-take.ensures.takes in

@@ -11,5 +11,5 @@ append-requires-clause-place c =
     let opened = c.in-Ok.ensures in
     let schema = c.args.schema.now in
     quiet_last c.in-Ok.records _ c.args.place c.args.row.now.code _ (λ set. refl)
-    (may_stand c.in-Ok.records schema c.args.place c.args.row.now.code _ opened.schema_is opened.place_is (c.may_stand.ensures.root ok)
+    (may_stand c.in-Ok.records schema c.args.place c.args.row.now.code _ opened.schema opened.place (c.may_stand.ensures.root ok)
     (λ none. subst (λ (l : List ℕ). BelongsTo schema 0 (key_of schema (unplaced 1 l))) c.as_slice-else-not-fits.ensures (c.may_stand.ensures.belongs ok none)))

@@ -3,7 +3,7 @@ use Rattle.std.proofs.lemmas.Result.{err_from_is_err_and}
 use Rattle.hal_base.specs.declared.outcome.PageFault.TheVariants as page
 use Rattle.record_tree.proofs.Frames.{ok_weaker}
 use Rattle.record_tree.proofs.CellFrames.{reads_of, changes_at, cells_then, cells_fail}
-use Rattle.record_tree.proofs.Downward.{first_holds, first_pends, span_ends, stays_then, told_from}
+use Rattle.record_tree.proofs.Downward.{first_holds, first_pends, span_ends, span_few, stays_then, told_from}
 use Rattle.record_tree.proofs.Opening.{one_fault}
 use Rattle.record_tree.proofs.descent.end_span.Goals as goal
 
@@ -53,3 +53,8 @@ returns-clause-leaves g c =
     (changes_at cells mid new c.args.at (λ cell. cell.copied ≡ false) (g.met.H.Shelf.told_alike c.cell.new.shelf) (g.met.H.Shelf.told_alike c.end.new.shelf) (first_holds cells old mid c.args.at c.cell.ensures.leaves.same c.requires.hangs) c.end.ensures.leaves)
     (g.met.H.Shelf.steady_then c.args.shelf.now c.cell.new.shelf c.end.new.shelf) in
     cells_then cells c.end.new.cells c.end.ensures.stays.first ends c.finish.ensures.leaves (g.met.H.Shelf.steady_then c.args.shelf.now c.end.new.shelf c.finish.new.shelf)
+
+pub returns-clause-few : goal.returns-clause-few
+returns-clause-few g c =
+    span_few c.args.fate c.args.cells.now c.end.new.cells (g.H.Shelf.seen c.args.shelf.now) (g.H.Shelf.seen c.cell.new.shelf) (g.H.Shelf.seen c.end.new.shelf) (g.H.Shelf.seen c.finish.new.shelf) c.args.at c.in_ok-cell.cell c.put_off.new.pending.items
+    c.cell.ensures.leaves.same c.in_ok-cell.ensures.cell (c.in_ok-put_off.ensures ∙ ap (λ (l : List ℕ). l ++ c.as_slice.result.now) c.new.ensures.items ∙ c.as_slice.ensures) c.in_ok-end.ensures.ended c.cell.ensures.leaves.few c.end.ensures.few c.finish.ensures.few

@@ -16,7 +16,7 @@ returns-clause-appended g c =
     let new = g.H.Shelf.seen c.append.new.shelf in
     let now : SideCells = record side { stores = with_item side.stores place c.append.new.self } in
     let was = called side now place store old new c.requires.stands (g.met.H.Shelf.told_alike c.args.shelf.now) (g.met.H.Shelf.told_alike c.append.new.shelf) c.place_of-place.ensures.below c.index_mut.ensures.value
-    (grown_others c.append.ensures.leaves.grown) refl refl in
+    (grown_others c.append.ensures.leaves.changes.grown) refl refl in
     all_cases c.append.result c.append.ensures.appended (λ at put. appended_cell side now place store old new c.args.cell.now c.args.fbff c.args.fspf at was c.place_of-place.ensures.place put) (λ fault empty. none_came side now place store old new c.args.cell.now was c.place_of-place.ensures.place empty)
 
 pub returns-clause-no_room : goal.returns-clause-no_room
@@ -29,9 +29,9 @@ pub returns-clause-stays : goal.returns-clause-stays
 returns-clause-stays g c =
     let there = letter_here c.args.self.now (g.H.Shelf.seen c.args.shelf.now) c.place_of-place.result c.index_mut.result.now c.requires.stands c.place_of-place.ensures.below c.index_mut.ensures.value in
     side_stays c.args.self.now (record c.args.self.now { stores = with_item c.args.self.now.stores c.place_of-place.result c.append.new.self }) c.place_of-place.result c.index_mut.result.now c.append.new.self (g.H.Shelf.seen c.args.shelf.now) (g.H.Shelf.seen c.append.new.shelf) c.requires.stands there.0 refl refl refl refl
-    c.append.ensures.stays (grown_others c.append.ensures.leaves.grown)
+    c.append.ensures.stays (grown_others c.append.ensures.leaves.changes.grown)
 
 pub returns-clause-leaves : goal.returns-clause-leaves
 returns-clause-leaves g c =
     let letter = (letter_here c.args.self.now (g.H.Shelf.seen c.args.shelf.now) c.place_of-place.result c.index_mut.result.now c.requires.stands c.place_of-place.ensures.below c.index_mut.ensures.value).1 in
-    grows_in (letter.set ∙ ap (lettered c.args.self.now.first) c.place_of-place.ensures.place) c.append.ensures.leaves
+    grows_in (λ set. opened_pages c.args.fbff (length ((g.H.Shelf.seen c.args.shelf.now).places set))) (letter.set ∙ ap (lettered c.args.self.now.first) c.place_of-place.ensures.place) c.append.ensures.leaves

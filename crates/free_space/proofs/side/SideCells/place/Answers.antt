@@ -15,7 +15,7 @@ returns-clause-placed g c =
     let new = g.H.Shelf.seen c.place.new.shelf in
     let now : SideCells = record side { stores = with_item side.stores place c.place.new.self } in
     let was = called side now place store old new c.requires.stands (g.met.H.Shelf.told_alike c.args.shelf.now) (g.met.H.Shelf.told_alike c.place.new.shelf) c.place_of-place.ensures.below c.index_mut.ensures.value
-    (grown_others c.place.ensures.leaves.grown) refl refl in
+    (grown_others c.place.ensures.leaves.changes.grown) refl refl in
     all_cases c.place.result c.place.ensures.placed (λ at put. placed_cell side now place store old new c.args.cell.now at was c.place_of-place.ensures.place put) (λ fault empty. none_came side now place store old new c.args.cell.now was c.place_of-place.ensures.place empty)
 
 pub returns-clause-no_room : goal.returns-clause-no_room
@@ -28,9 +28,9 @@ pub returns-clause-stays : goal.returns-clause-stays
 returns-clause-stays g c =
     let there = letter_here c.args.self.now (g.H.Shelf.seen c.args.shelf.now) c.place_of-place.result c.index_mut.result.now c.requires.stands c.place_of-place.ensures.below c.index_mut.ensures.value in
     side_stays c.args.self.now (record c.args.self.now { stores = with_item c.args.self.now.stores c.place_of-place.result c.place.new.self }) c.place_of-place.result c.index_mut.result.now c.place.new.self (g.H.Shelf.seen c.args.shelf.now) (g.H.Shelf.seen c.place.new.shelf) c.requires.stands there.0 refl refl refl refl
-    c.place.ensures.stays (grown_others c.place.ensures.leaves.grown)
+    c.place.ensures.stays (grown_others c.place.ensures.leaves.changes.grown)
 
 pub returns-clause-leaves : goal.returns-clause-leaves
 returns-clause-leaves g c =
     let letter = (letter_here c.args.self.now (g.H.Shelf.seen c.args.shelf.now) c.place_of-place.result c.index_mut.result.now c.requires.stands c.place_of-place.ensures.below c.index_mut.ensures.value).1 in
-    grows_in (letter.set ∙ ap (lettered c.args.self.now.first) c.place_of-place.ensures.place) c.place.ensures.leaves
+    grows_in (λ set. 1) (letter.set ∙ ap (lettered c.args.self.now.first) c.place_of-place.ensures.place) c.place.ensures.leaves

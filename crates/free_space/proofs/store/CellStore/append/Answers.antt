@@ -7,7 +7,7 @@ use Rattle.segment_blocks.specs.Tiling.{cell_length}
 use Rattle.segment_blocks.specs.declared.space.Space.{Space}
 use Rattle.free_space.specs.Placing.{opened_pages, Appends, IsLastOpen, HasRoom}
 use Rattle.free_space.specs.Store.{Relays}
-use Rattle.free_space.proofs.Told.{handed_on, handed_to, if_some, added_is, stays_then}
+use Rattle.free_space.proofs.Told.{handed_on, handed_to, if_some, added_is, stays_then, relays_heads, heads_match}
 use Rattle.free_space.proofs.PlaceSteps.{NoRoomIn, no_place, appended_here, appended_behind, match_of, match_err, on_ok_any, none_added, grows_only, grew_none, grew_same, grew_as, grown_changed}
 use Rattle.free_space.proofs.store.CellStore.append.Goals as goal
 
@@ -24,15 +24,20 @@ returns-in-Some-clause-appended g c =
 pub returns-in-Some-clause-no_room : goal.returns-in-Some-clause-no_room
 returns-in-Some-clause-no_room g c = λ is. absurd (c.append_in.ensures.room is)
 
-pub returns-in-Some-clause-few : goal.returns-in-Some-clause-few
-returns-in-Some-clause-few g c = omega (arith, none_added c.args.self.now.set (g.H.Shelf.seen c.args.shelf.now) (g.H.Shelf.seen c.append_in.new.shelf) c.append_in.ensures.leaves.changed)
-
 pub returns-in-Some-clause-opened : goal.returns-in-Some-clause-opened
 returns-in-Some-clause-opened g c = on_ok_any c.append_in.result
     (λ some. absurd (omega (arith, some, none_added c.args.self.now.set (g.H.Shelf.seen c.args.shelf.now) (g.H.Shelf.seen c.append_in.new.shelf) c.append_in.ensures.leaves.changed)))
 
 pub returns-in-Some-clause-leaves : goal.returns-in-Some-clause-leaves
-returns-in-Some-clause-leaves g c = grows_only 0 c.args.self.now.set (g.H.Shelf.seen c.args.shelf.now) (g.H.Shelf.seen c.append_in.new.shelf) c.append_in.ensures.leaves.keeps (changed_grown c.append_in.ensures.leaves.changed)
+returns-in-Some-clause-leaves g c =
+    let old = g.H.Shelf.seen c.args.shelf.now in
+    let new = g.H.Shelf.seen c.append_in.new.shelf in
+    record {
+      changes = grows_only 0 c.args.self.now.set old new c.append_in.ensures.leaves.keeps (changed_grown c.append_in.ensures.leaves.changed);
+      heads = heads_match c.args.self.now old new _ _ c.append_in.result (returns-in-Some-clause-appended g c);
+      at_most = omega (arith, none_added c.args.self.now.set old new c.append_in.ensures.leaves.changed);
+      few = c.append_in.ensures.few;
+    }
 
 pub returns-in_err-page-in-None-clause-appended : goal.returns-in_err-page-in-None-clause-appended
 returns-in_err-page-in-None-clause-appended g c =
@@ -50,16 +55,21 @@ returns-in_err-page-in-None-clause-no_room g c = λ is.
           (g.met.H.Shelf.pages_are c.args.shelf.now c.args.self.now.set) told).1 (c.requires.stands.told pages told) none),
     )
 
-pub returns-in_err-page-in-None-clause-few : goal.returns-in_err-page-in-None-clause-few
-returns-in_err-page-in-None-clause-few g c = omega (arith, c.open_page.ensures.few, ap (opened_pages c.args.fbff) c.requires.stands.many)
-
 pub returns-in_err-page-in-None-clause-leaves : goal.returns-in_err-page-in-None-clause-leaves
 returns-in_err-page-in-None-clause-leaves g c =
     let p = err_from_is_err_and c.from_residual.result c.from_residual.ensures.1 in
+    let old = g.H.Shelf.seen c.args.shelf.now in
+    let new = g.H.Shelf.seen c.open_page.new.shelf in
+    let grew = c.in_err-page-in-None.ensures.grown in
     record {
-      keeps = keeps_as c.open_page.ensures.keeps (handed_to c.open_page.result c.from_residual.result p.0 c.in_err-page-in-None.field-0.0 Failed p.1 p.2 c.in_err-page-in-None.was)
-          (handed_on c.open_page.result c.from_residual.result p.0 c.in_err-page-in-None.field-0.0 Failed p.1 p.2 c.in_err-page-in-None.was);
-      grown = c.in_err-page-in-None.ensures.grown.blocks;
+      changes = record {
+        keeps = keeps_as c.open_page.ensures.keeps (handed_to c.open_page.result c.from_residual.result p.0 c.in_err-page-in-None.field-0.0 Failed p.1 p.2 c.in_err-page-in-None.was)
+            (handed_on c.open_page.result c.from_residual.result p.0 c.in_err-page-in-None.field-0.0 Failed p.1 p.2 c.in_err-page-in-None.was);
+        grown = grew.blocks;
+      };
+      heads = relays_heads c.args.self.now old new _ grew.tiles;
+      at_most = omega (arith, c.open_page.ensures.few, ap (opened_pages c.args.fbff) c.requires.stands.many);
+      few = omega (arith, c.open_page.ensures.fetches);
     }
 
 pub returns-in_ok-page-in-None-clause-appended : goal.returns-in_ok-page-in-None-clause-appended
@@ -83,17 +93,6 @@ returns-in_ok-page-in-None-clause-appended g c =
 pub returns-in_ok-page-in-None-clause-no_room : goal.returns-in_ok-page-in-None-clause-no_room
 returns-in_ok-page-in-None-clause-no_room g c = λ is. absurd (c.append_in-in-None.ensures.room is)
 
-pub returns-in_ok-page-in-None-clause-few : goal.returns-in_ok-page-in-None-clause-few
-returns-in_ok-page-in-None-clause-few g c =
-    let e = c.in_ok-page-in-None.ensures in
-    let count = opened_pages c.args.fbff (length c.args.self.now.spaces.pages.items) in
-    omega (
-      arith,
-      ap (opened_pages c.args.fbff) c.requires.stands.many,
-      added_is count c.args.self.now.set (g.H.Shelf.seen c.args.shelf.now) (g.H.Shelf.seen c.append_in-in-None.new.shelf)
-          (grown_changed count c.args.self.now.set c.open_page.new.self.set (g.H.Shelf.seen c.args.shelf.now) (g.H.Shelf.seen c.open_page.new.shelf) (g.H.Shelf.seen c.append_in-in-None.new.shelf) e.stays.set e.grown.blocks c.append_in-in-None.ensures.leaves.changed),
-    )
-
 pub returns-in_ok-page-in-None-clause-opened : goal.returns-in_ok-page-in-None-clause-opened
 returns-in_ok-page-in-None-clause-opened g c =
     let e = c.in_ok-page-in-None.ensures in
@@ -110,6 +109,14 @@ pub returns-in_ok-page-in-None-clause-leaves : goal.returns-in_ok-page-in-None-c
 returns-in_ok-page-in-None-clause-leaves g c =
     let e = c.in_ok-page-in-None.ensures in
     let count = opened_pages c.args.fbff (length c.args.self.now.spaces.pages.items) in
-    grows_only count c.args.self.now.set (g.H.Shelf.seen c.args.shelf.now) (g.H.Shelf.seen c.append_in-in-None.new.shelf)
-    (keeps_then c.open_page.ensures.keeps c.append_in-in-None.ensures.leaves.keeps (g.met.H.Shelf.steady_then c.args.shelf.now c.open_page.new.shelf c.append_in-in-None.new.shelf))
-    (grown_changed count c.args.self.now.set c.open_page.new.self.set (g.H.Shelf.seen c.args.shelf.now) (g.H.Shelf.seen c.open_page.new.shelf) (g.H.Shelf.seen c.append_in-in-None.new.shelf) e.stays.set e.grown.blocks c.append_in-in-None.ensures.leaves.changed)
+    let old = g.H.Shelf.seen c.args.shelf.now in
+    let mid = g.H.Shelf.seen c.open_page.new.shelf in
+    let new = g.H.Shelf.seen c.append_in-in-None.new.shelf in
+    let grown = grown_changed count c.args.self.now.set c.open_page.new.self.set old mid new e.stays.set e.grown.blocks c.append_in-in-None.ensures.leaves.changed in
+    record {
+      changes = grows_only count c.args.self.now.set old new
+          (keeps_then c.open_page.ensures.keeps c.append_in-in-None.ensures.leaves.keeps (g.met.H.Shelf.steady_then c.args.shelf.now c.open_page.new.shelf c.append_in-in-None.new.shelf)) grown;
+      heads = heads_match c.args.self.now old new _ _ c.append_in-in-None.result (returns-in_ok-page-in-None-clause-appended g c);
+      at_most = omega (arith, ap (opened_pages c.args.fbff) c.requires.stands.many, added_is count c.args.self.now.set old new grown);
+      few = omega (arith, c.open_page.ensures.fetches, c.append_in-in-None.ensures.few);
+    }

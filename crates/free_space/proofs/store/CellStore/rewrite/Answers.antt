@@ -1,9 +1,9 @@
-use Rattle.std.proofs.Common.{List, subst}
-use Rattle.std.proofs.lemmas.Result.{on_ok_weaker, on_err_weaker}
+use Rattle.std.proofs.Common.{List, subst, arith}
+use Rattle.std.proofs.lemmas.Result.{on_ok_weaker, on_err_weaker, err_from_is_err_and}
 use Rattle.hal_base.specs.declared.place.Shape.{Shape}
 use Rattle.hal_base.proofs.ShelfLemmas.{same_then, reads_changes, changes_then}
 use Rattle.free_space.specs.Changes.{changed}
-use Rattle.free_space.proofs.Told.{stands_same}
+use Rattle.free_space.proofs.Told.{stands_same, heads_either, writes_err}
 use Rattle.free_space.proofs.PageSteps.{RewritesAll, rewritten_told, stands_rewritten_told, on_either, same_front}
 use Rattle.free_space.proofs.store.CellStore.rewrite.Goals as goal
 
@@ -32,4 +32,13 @@ returns-clause-stands g c =
     (λ same. stands_same c.args.self.now (g.H.Shelf.seen c.args.shelf.now) (g.H.Shelf.seen c.stage.new.shelf) c.requires.stands (same_then c.fetch.ensures.leaves.same same))
 
 pub returns-clause-leaves : goal.returns-clause-leaves
-returns-clause-leaves g c = changes_then (reads_changes c.args.self.now.set c.fetch.ensures.leaves) c.stage.ensures.leaves (g.met.H.Shelf.steady_then c.args.shelf.now c.fetch.new.shelf c.stage.new.shelf)
+returns-clause-leaves g c = record {
+  changes = changes_then (reads_changes c.args.self.now.set c.fetch.ensures.leaves) c.stage.ensures.leaves (g.met.H.Shelf.steady_then c.args.shelf.now c.fetch.new.shelf c.stage.new.shelf);
+  heads = heads_either c.args.self.now (g.H.Shelf.seen c.args.shelf.now) (g.H.Shelf.seen c.stage.new.shelf) _ c.stage.result (returns-clause-changed g c) (returns-clause-unchanged g c);
+  few = omega (arith, c.fetch.ensures.leaves.few, c.stage.ensures.fetches);
+}
+
+pub returns-in_err-fetch-clause-leaves : goal.returns-in_err-fetch-clause-leaves
+returns-in_err-fetch-clause-leaves g c =
+    let p = err_from_is_err_and c.from_residual.result c.from_residual.ensures.1 in
+    writes_err 1 c.args.self.now.set c.fetch.result c.from_residual.result p.0 c.in_err-fetch.field-0.0 p.1 p.2 c.in_err-fetch.was c.fetch.ensures.leaves (omega arith)

@@ -2,7 +2,7 @@ use Rattle.std.proofs.Common.{◌≡◌, ◌∙◌, ◌++◌, ◌∷◌, [], ℕ
 use Rattle.std.proofs.lemmas.Result.{err_from_is_err_and}
 use Rattle.hal_base.specs.declared.outcome.PageFault.TheVariants as page
 use Rattle.record_tree.proofs.CellFrames.{cells_then, cells_fail}
-use Rattle.record_tree.proofs.Downward.{way_begun, way_none, way_holds, way_met, way_done, stays_then, none_pending}
+use Rattle.record_tree.proofs.Downward.{way_begun, way_none, way_holds, way_met, way_done, way_few, way_few_more, stays_then, none_pending}
 use Rattle.record_tree.proofs.Opening.{one_fault, ok_not_err}
 use Rattle.record_tree.proofs.descent.Descent.finish.Goals as goal
 
@@ -24,7 +24,7 @@ loop-preserved g c = record {
   fate = c.meet.ensures.same ∙ c.loop.invariant.fate;
   way = way_met c.args.self.now.fate c.args.self.now.pending.items c.pop.new.self.items c.loop.self.pending.items c.meet.new.self.pending.items c.in-Some.at c.args.cells.now c.loop.cells c.meet.new.cells
       (g.H.Shelf.steady c.args.shelf.now c.meet.new.shelf) (g.H.Shelf.seen c.args.shelf.now) (g.H.Shelf.seen c.loop.shelf) (g.H.Shelf.seen c.meet.new.shelf) c.loop.self.fate c.loop.invariant.fate c.in-Some.ensures.items c.if-at-eq0.false
-      c.loop.invariant.way c.meet.ensures.stays c.meet.ensures.leaves (λ is. ok_not_err c.meet.result c.in_ok-meet.field-0 page.Failed c.in_ok-meet.was is) (g.met.H.Shelf.steady_then c.args.shelf.now c.loop.shelf c.meet.new.shelf) c.in_ok-meet.ensures.met;
+      c.loop.invariant.way c.meet.ensures.stays c.meet.ensures.leaves (λ is. ok_not_err c.meet.result c.in_ok-meet.field-0 page.Failed c.in_ok-meet.was is) (g.met.H.Shelf.steady_then c.args.shelf.now c.loop.shelf c.meet.new.shelf) c.meet.ensures.few c.in_ok-meet.ensures.met;
 }
 
 pub meet-requires-clause-live : goal.meet-requires-clause-live
@@ -64,3 +64,16 @@ returns-clause-stays g c = c.loop.invariant.way.stays
 
 pub returns-clause-leaves : goal.returns-clause-leaves
 returns-clause-leaves g c = cells_fail c.args.cells.now c.loop.invariant.way.leaves (λ no. absurd no) (λ is. let wrong : Err page.Memory ≡ Err page.Failed = is in cc)
+
+pub returns-in_default-clause-few : goal.returns-in_default-clause-few
+returns-in_default-clause-few g c =
+    way_few c.args.self.now.fate c.args.self.now.pending.items c.loop.self.pending.items c.args.cells.now c.loop.cells (g.H.Shelf.steady c.args.shelf.now c.loop.shelf) (g.H.Shelf.seen c.args.shelf.now) (g.H.Shelf.seen c.loop.shelf) c.loop.invariant.way
+
+pub returns-in_err-meet-clause-few : goal.returns-in_err-meet-clause-few
+returns-in_err-meet-clause-few g c =
+    way_few_more c.args.self.now.fate c.args.self.now.pending.items c.pop.new.self.items c.loop.self.pending.items c.in-Some.at c.args.cells.now c.loop.cells (g.H.Shelf.steady c.args.shelf.now c.loop.shelf) (g.H.Shelf.seen c.args.shelf.now)
+    (g.H.Shelf.seen c.loop.shelf) (g.H.Shelf.seen c.meet.new.shelf) c.in-Some.ensures.items c.if-at-eq0.false c.meet.ensures.few c.loop.invariant.way
+
+pub returns-clause-few : goal.returns-clause-few
+returns-clause-few g c =
+    way_few c.args.self.now.fate c.args.self.now.pending.items c.loop.self.pending.items c.args.cells.now c.loop.cells (g.H.Shelf.steady c.args.shelf.now c.loop.shelf) (g.H.Shelf.seen c.args.shelf.now) (g.H.Shelf.seen c.loop.shelf) c.loop.invariant.way

@@ -2,13 +2,15 @@ use Rattle.std.proofs.Common.{◌+◌, ℕ, length, refl, ap, arith}
 use Rattle.std.proofs.lemmas.Result.{err_from_is_err_and}
 use Rattle.hal_base.specs.declared.outcome.PageFault.TheVariants as page
 use Rattle.hal_schema.specs.declared.schema.Schema.{Schema}
+use Rattle.free_space.specs.SideCalls.{set_of}
 use Rattle.keyed_sets.specs.declared.set.KeyedSet.{KeyedSet}
-use Rattle.record_tree.specs.Storing.{room_need, pointer_home, named_cell}
+use Rattle.record_tree.specs.Storing.{room_need, pointer_home, named_cell, segment_for}
 use Rattle.record_tree.proofs.Opening.{one_fault, ok_not_err}
 use Rattle.record_tree.proofs.Staying.{records_same}
 use Rattle.record_tree.proofs.Frames.{changes_at, side_then, side_fault, side_more, side_read}
 use Rattle.record_tree.proofs.Storing.{fits_of, beside_stored}
-use Rattle.record_tree.proofs.Joining.{joins, joins_same, past_same, pointer_on, reads_on, pointer_stored, pointer_within}
+use Rattle.record_tree.proofs.Joining.{joins, joins_same, pointer_on, reads_on, pointer_stored, pointer_within}
+use Rattle.record_tree.proofs.Rooms.{row_room_around}
 use Rattle.record_tree.proofs.records.Records.add_dependent.Goals as goal
 
 pub returns-in_err-to-clause-leaves : goal.returns-in_err-to-clause-leaves
@@ -102,9 +104,11 @@ returns-clause-joins g c =
       set = c.in_ok-set_pointer.ensures.set;
     }))
 
-pub returns-clause-past : goal.returns-clause-past
-returns-clause-past g c =
-    past_same c.args.new.room c.args.self.now (g.H.Shelf.seen c.args.shelf.now) (g.H.Shelf.seen c.pointer.new.shelf) c.in_ok-at.at c.pointer.ensures.leaves.same c.in_ok-at.ensures.past
+pub returns-clause-room : goal.returns-clause-room
+returns-clause-room g c =
+    let records = c.args.self.now in
+    row_room_around c.args.new.room records (segment_for c.args.new) c.in_ok-at.at (g.H.Shelf.seen c.args.shelf.now) (g.H.Shelf.seen c.pointer.new.shelf) (g.H.Shelf.seen c.store.new.shelf) (g.H.Shelf.seen c.set_pointer.new.shelf) c.pointer.ensures.leaves.same
+    (λ cell. c.set_pointer.ensures.leaves.changed.places (set_of records.cells cell)) c.in_ok-at.ensures.room
 
 pub returns-clause-leaves : goal.returns-clause-leaves
 returns-clause-leaves g c =

@@ -3,7 +3,7 @@ use Rattle.std.proofs.lemmas.Result.{err_from_is_err_and}
 use Rattle.record_tree.specs.declared.room.Room.TheVariants.{Past}
 use Rattle.record_tree.specs.Changing.{ComesLast, loading_need}
 use Rattle.record_tree.specs.Placing.{unplaced}
-use Rattle.record_tree.specs.Storing.{ComesAt, IsPast}
+use Rattle.record_tree.specs.Storing.{ComesAt, RowHasRoom}
 use Rattle.record_tree.proofs.Frames.{side_none, ok_both}
 use Rattle.record_tree.proofs.Inserting.{Laws, comes_last, last_place_for}
 use Rattle.record_tree.proofs.records.Records.append.Goals as goal
@@ -27,6 +27,6 @@ returns-clause-appended g c =
     let room = Past c.args.fbff c.args.fspf in
     let old = g.H.Shelf.seen c.args.shelf.now in
     let later = g.H.Shelf.seen c.add_row.new.shelf in
-    ok_both (ComesAt records now c.args.place (record { code = row.code; name = Some row.name; content = c.in_ok-content.content; room = room }) old later) (IsPast room records old)
-    (ComesLast records now c.args.place (Some row.name) (unplaced row.code row.content) old later) c.add_row.result c.add_row.ensures.comes c.add_row.ensures.past (λ at comes past.
-    comes_last laws c.first_children_are_inserted.ensures c.new_twins_stand_behind_spans.ensures records now c.args.place row.code (Some row.name) room row.content c.in_ok-content.content at old later c.in_ok-content.ensures c.requires.place comes past)
+    ok_both (ComesAt records now c.args.place (record { code = row.code; name = Some row.name; content = c.in_ok-content.content; room = room }) old later) (RowHasRoom room records (unplaced row.code c.in_ok-content.content) old later)
+    (ComesLast c.args.fbff c.args.fspf records now c.args.place (Some row.name) (unplaced row.code row.content) old later) c.add_row.result c.add_row.ensures.comes c.add_row.ensures.room (λ at comes has.
+    comes_last laws c.first_children_are_inserted.ensures c.new_twins_stand_behind_spans.ensures c.args.fbff c.args.fspf records now c.args.place row.code (Some row.name) row.content c.in_ok-content.content at old later c.in_ok-content.ensures c.requires.place (record { comes = comes; room = has }))

@@ -3,13 +3,19 @@ use Rattle.std.proofs.lemmas.Result.{err_from_is_err_and}
 use Rattle.hal_base.specs.declared.outcome.PageFault.TheVariants as page
 use Rattle.free_space.specs.declared.side.SideCells.{SideCells}
 use Rattle.free_space.specs.SideCalls.{StandsForSide}
-use Rattle.record_tree.specs.Cutting.{pointer_from}
+use Rattle.record_tree.specs.Placing.{pointer_from}
 use Rattle.record_tree.proofs.CellFrames.{side_reads, side_cells, side_then, side_fails}
-use Rattle.record_tree.proofs.Cutting.{can_hang, cut_done, cuts_same, facts_of, found_same, leads_same, told_back_side}
+use Rattle.record_tree.proofs.Cutting.{can_hang, cut_done, cut_few, cuts_same, facts_of, found_same, leads_same, told_back_side}
 use Rattle.record_tree.proofs.Frames.{ok_weaker}
 use Rattle.record_tree.proofs.Opening.{one_fault}
 use Rattle.record_tree.proofs.Staying.{records_same}
 use Rattle.record_tree.proofs.records.Records.cut.Goals as goal
+
+pub returns-in_err-cell-clause-leaves : goal.returns-in_err-cell-clause-leaves
+returns-in_err-cell-clause-leaves g c =
+    let p = err_from_is_err_and c.from_residual.result c.from_residual.ensures.1 in
+    let q = one_fault c.cell.result c.from_residual.result _ p.0 page.Failed c.in_err-cell.was p.1 p.2 in
+    side_fails c.args.self.now (side_reads c.args.self.now c.cell.ensures.leaves) q.0 q.1
 
 pub part-requires-clause-stands : goal.part-requires-clause-stands
 part-requires-clause-stands g c = records_same c.args.self.now (g.H.Shelf.seen c.args.shelf.now) (g.H.Shelf.seen c.cell.new.shelf) c.requires.stands c.cell.ensures.leaves.same
@@ -63,3 +69,16 @@ returns-clause-leaves g c =
     side_then records c.part.new.self (ap (λ (s : SideCells). s.first) parted.same_cells) parted.set
     (side_then records records refl refl (side_reads records c.cell.ensures.leaves) c.part.ensures.leaves (g.met.H.Shelf.steady_then c.args.shelf.now c.cell.new.shelf c.part.new.shelf))
     (side_cells c.part.new.self c.end_span.ensures.leaves) (g.met.H.Shelf.steady_then c.args.shelf.now c.part.new.shelf c.end_span.new.shelf)
+
+pub returns-clause-few : goal.returns-clause-few
+returns-clause-few g c =
+    let records = c.args.self.now in
+    let first = g.H.Shelf.seen c.args.shelf.now in
+    let old = g.H.Shelf.seen c.cell.new.shelf in
+    let mid = g.H.Shelf.seen c.part.new.shelf in
+    let new = g.H.Shelf.seen c.end_span.new.shelf in
+    let same = c.cell.ensures.leaves.same in
+    let stands = records_same records first old c.requires.stands same in
+    let found = found_same records.cells first old c.args.at c.in_ok-cell.cell same c.in_ok-cell.ensures.cell in
+    cut_few c.schemas_are_kept.ensures c.cuts_are_spans.ensures records c.part.new.self (pointer_from records.schema c.in_ok-cell.cell.code c.args.place.parent c.args.place.prior) c.args.at c.in_ok-cell.cell first old mid new same stands
+    (λ told. c.no_side_cell_is_at_zero.ensures records.cells old c.args.at c.in_ok-cell.cell stands.cells (found told)) c.in_ok-part.ensures.parted found c.cell.ensures.leaves.few c.part.ensures.few c.end_span.ensures.few

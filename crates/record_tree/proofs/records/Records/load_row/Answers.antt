@@ -31,6 +31,6 @@ returns-clause-loaded g c =
     let at = c.in_ok-at.at in
     let old = g.H.Shelf.seen c.args.shelf.now in
     let later = g.H.Shelf.seen c.add_row.new.shelf in
-    loads records now c.args.place c.args.code at c.args.content.now c.home_name.result old later c.home_name.ensures
-    (comes_last laws c.first_children_are_inserted.ensures c.new_twins_stand_behind_spans.ensures records now c.args.place c.args.code None (Past c.args.fbff c.args.fspf) c.args.content.now c.in_ok-content.content at old later c.in_ok-content.ensures
-    c.requires.place c.in_ok-at.ensures.comes c.in_ok-at.ensures.past)
+    loads c.args.fbff c.args.fspf records now c.args.place c.args.code at c.args.content.now c.home_name.result old later c.home_name.ensures
+    (comes_last laws c.first_children_are_inserted.ensures c.new_twins_stand_behind_spans.ensures c.args.fbff c.args.fspf records now c.args.place c.args.code None c.args.content.now c.in_ok-content.content at old later c.in_ok-content.ensures
+    c.requires.place (record { comes = c.in_ok-at.ensures.comes; room = c.in_ok-at.ensures.room }))

@@ -24,9 +24,9 @@ returns-clause-parted g c =
     let place : c.child_place-place.result ≡ child_place types code = c.child_place-place.ensures ∙ ap (λ (l : List SegType). child_place l code) c.as_slice-types.ensures in
     ok_weaker c.set_child.result c.set_child.ensures.alters.altered (λ turns.
     parts_below records old (g.H.Shelf.seen c.set_child.new.shelf) c.args.above c.child_place-place.result c.args.at c.next_twin.result c.args.cell.now (λ told. c.no_side_cell_is_at_zero.ensures records.cells old c.args.at c.args.cell.now c.requires.stands.cells (c.requires.cell told))
-    (g.met.H.Shelf.told_alike c.args.shelf.now) (g.met.H.Shelf.told_alike c.set_child.new.shelf) c.requires.stands c.requires.above c.set_child.ensures.stands c.set_child.ensures.leaves.changed place c.next_twin.ensures turns)
+    (g.met.H.Shelf.told_alike c.args.shelf.now) (g.met.H.Shelf.told_alike c.set_child.new.shelf) c.requires.stands c.requires.above c.set_child.ensures.stands c.set_child.ensures.leaves.changes.changed place c.next_twin.ensures turns)
 
 pub returns-clause-leaves : goal.returns-clause-leaves
 returns-clause-leaves g c =
     changes_cell c.args.self.now (g.H.Shelf.seen c.args.shelf.now) (g.H.Shelf.seen c.set_child.new.shelf) c.args.above (λ above. first_child c.args.self.now.schema c.args.cell.now.code above ≡ c.args.at) (g.met.H.Shelf.told_alike c.args.shelf.now)
-    (g.met.H.Shelf.told_alike c.set_child.new.shelf) c.requires.above c.set_child.ensures.leaves
+    (g.met.H.Shelf.told_alike c.set_child.new.shelf) c.requires.above c.set_child.ensures.leaves.changes

@@ -1,13 +1,15 @@
 use Rattle.std.proofs.Common.{◌≡◌, ℕ, length, sym, ap, subst, arith}
 use Rattle.std.specs.Prelude.{unwrap_or}
+use Rattle.std.proofs.lemmas.Result.{err_from_is_err_and}
 use Rattle.segment_blocks.specs.declared.tile.Cell.{Cell}
 use Rattle.free_space.specs.Map.{Alters}
-use Rattle.free_space.specs.SideCalls.{Turns}
+use Rattle.free_space.specs.SideCalls.{Turns, set_of}
 use Rattle.free_space.specs.Store.{IsTyped}
 use Rattle.keyed_sets.specs.declared.set.KeyedSet.{KeyedSet}
 use Rattle.record_tree.specs.Changing.{home_name}
-use Rattle.record_tree.specs.Storing.{StoresCell, IsPast, room_need, nameless, segment_for, set_name, row_cell, named_cell}
-use Rattle.record_tree.proofs.Frames.{changes_at, side_then, side_more, ok_from, ok_both}
+use Rattle.record_tree.specs.Storing.{StoresCell, RowHasRoom, room_need, nameless, segment_for, set_name, row_cell, named_cell}
+use Rattle.record_tree.proofs.Frames.{changes_at, side_none, side_then, side_more, ok_from, ok_both}
+use Rattle.record_tree.proofs.Rooms.{row_room, room_behind}
 use Rattle.record_tree.proofs.Storing.{typed_cell, short_content, stored_within, name_stored}
 use Rattle.record_tree.proofs.records.Records.store.Goals as goal
 
@@ -28,6 +30,11 @@ hold-requires-clause-content g c =
     let short = short_content c.schemas_are_kept.ensures records.schema new.code new.content c.requires.fits in
     omega (arith, long, short)
 
+pub returns-in_err-cell-clause-leaves : goal.returns-in_err-cell-clause-leaves
+returns-in_err-cell-clause-leaves g c =
+    let p = err_from_is_err_and c.from_residual.result c.from_residual.ensures.1 in
+    side_none (room_need c.args.new.room) c.args.self.now (g.H.Shelf.seen c.args.shelf.now) (g.met.H.Shelf.steady_none c.args.shelf.now) c.requires.live (λ is. let first = p.1 in let second = p.2 in cc)
+
 pub returns-clause-stored : goal.returns-clause-stored
 returns-clause-stored g c =
     let records = c.args.self.now in
@@ -44,9 +51,18 @@ returns-clause-stored g c =
     (name_stored records mid new c.args.twin at c.in_ok-cell.cell old one two (g.met.H.Shelf.told_alike c.hold.new.shelf) (g.met.H.Shelf.told_alike c.name_by_home.new.shelf) c.requires.stands is c.in-None.is c.in_ok-at.ensures.stored
     c.name_by_home.ensures.leaves c.name_by_home.ensures.stands turns))
 
-pub returns-clause-past : goal.returns-clause-past
-returns-clause-past g c =
-    ok_from c.in_ok-at.at (IsPast c.args.new.room c.args.self.now (g.H.Shelf.seen c.args.shelf.now)) c.name_by_home.result c.name_by_home.ensures.same c.in_ok-at.ensures.past
+pub returns-clause-room : goal.returns-clause-room
+returns-clause-room g c =
+    let records = c.args.self.now in
+    let new = c.args.new in
+    let at = c.in_ok-at.at in
+    let old = g.H.Shelf.seen c.args.shelf.now in
+    let one = g.H.Shelf.seen c.hold.new.shelf in
+    let two = g.H.Shelf.seen c.name_by_home.new.shelf in
+    let cell = c.in_ok-cell.cell in
+    ok_from at (RowHasRoom new.room records (segment_for new) old two) c.name_by_home.result c.name_by_home.ensures.same
+    (row_room new.room records new (unwrap_or new.name nameless) c.args.twin cell at old two c.in_ok-cell.ensures
+    (room_behind new.room records cell at old one two (c.name_by_home.ensures.leaves.changed.places (set_of records.cells cell)) c.in_ok-at.ensures.room))
 
 pub returns-clause-leaves : goal.returns-clause-leaves
 returns-clause-leaves g c =

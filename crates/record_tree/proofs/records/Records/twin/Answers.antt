@@ -7,7 +7,7 @@ returns-in_err-cell-clause-stands g c = records_same c.args.self.now (g.H.Shelf.
 
 pub returns-clause-found : goal.returns-clause-found
 returns-clause-found g c =
-    twin_found c.pointers_lead_on.ensures c.args.self.now (g.H.Shelf.seen c.args.shelf.now) c.requires.stands c.args.at c.in_ok-cell.cell c.requires.row c.in_ok-cell.ensures.cell c.pointed.result c.pointed.ensures
+    twin_found c.pointers_lead_on.ensures c.twins_are_next.ensures c.args.self.now (g.H.Shelf.seen c.args.shelf.now) c.requires.stands c.args.at c.in_ok-cell.cell c.requires.row c.in_ok-cell.ensures.cell c.pointed.result c.pointed.ensures
 
 pub returns-clause-stands : goal.returns-clause-stands
 returns-clause-stands g c = records_same c.args.self.now (g.H.Shelf.seen c.args.shelf.now) (g.H.Shelf.seen c.cell.new.shelf) c.requires.stands c.cell.ensures.leaves.same
