@@ -1,7 +1,7 @@
 // A database in memory and its open sessions.
 use crate::rows::{changed, elements_of};
 use call_changes::decide;
-use call_runs::{OpenSession, open_session, session_place};
+use call_runs::{OpenSession, is_named, open_session, session_of};
 use call_text::{Call, Line, Reply, read_line, reply_line};
 use dli_calls::Decision;
 use get_rows::Elements;
@@ -62,16 +62,13 @@ impl Desk {
     fn call(&mut self, call: &Call) -> Result<Reply, WalkFault> {
         let alloc = self.alloc;
         let sessions = self.sessions.as_slice();
-        let Some(place) = session_place(sessions, None, call.session) else {
-            return Ok(status(*b"+S", 5));
-        };
-        let Some(open) = sessions.get(place) else {
+        let Some(open) = session_of(sessions, None, call.session) else {
             return Ok(status(*b"+S", 5));
         };
         let mut elements = elements_of(alloc, &self.schema, self.rows.as_slice(), self.free)?;
         let decision = decided(alloc, &mut elements, &open.session, call)?;
         let name = self.new_name();
-        let left = self.sessions_after(place, &decision, name, &mut elements)?;
+        let left = self.sessions_after(call, &decision, name, &mut elements)?;
         self.rows = changed(
             alloc,
             &self.schema,
@@ -83,27 +80,22 @@ impl Desk {
         Ok(decision.reply)
     }
 
-    /// What a decision leaves of the sessions: of its own, at a place, what was decided, and of each other what its change
-    /// leaves.
+    /// What a call's decision leaves of the sessions: of its own what was decided, and of each other what its change leaves.
     fn sessions_after(
         &self,
-        place: usize,
+        call: &Call,
         decision: &Decision,
         name: Ilk,
         elements: &mut Elements,
     ) -> Result<List<OpenSession>, WalkFault> {
         let mut after = List::new(self.alloc);
-        for (other, one) in self.sessions.as_slice().iter().enumerate() {
-            let session = if other == place {
+        for one in self.sessions.as_slice() {
+            let session = if is_named(None, call.session, one) {
                 own_after(decision, name)?
             } else {
                 kept(self.alloc, elements, &one.session, &decision.change)?
             };
-            after.push(OpenSession {
-                script: one.script,
-                name: one.name,
-                session,
-            })?;
+            after.push(one.with(session))?;
         }
         Ok(after)
     }
